@@ -1,0 +1,10 @@
+-- The laws of this crate, lowest first. What stands above the crate cites these and no definition's text.
+pub mod Tests
+pub mod Rounding
+pub mod Limits
+pub mod Lawful
+pub mod GcraLaws
+pub mod TokenBucketLaws
+pub mod Cases
+pub mod Wait
+pub mod Life

@@ -1,0 +1,47 @@
+-- A wait is the least one, at least 1, and at most what the cost alone takes, for any engine with the backlog law.
+-- Assumes nothing.
+use mathlib.Core.Path.{_≡_, _∙_}
+use mathlib.Core.Bool.{true, false}
+use Prim.Native.Nat.{ℕ, _+_, _-_, _*_, _≤_, _<_}
+use native.Mathlib.Nat.{add-sub-cancel-left, lt-of-not-le}
+use native.Mathlib.Omega.{arith}
+use lib.Dec.{leb}
+use borrow.Author.Tests.{leb-false}
+use Rattle.rate.specs.declared.plan.Plan.{Plan}
+use Rattle.rate.specs.Grains.{ticksIn, price, capacity, divUp}
+use Rattle.rate.specs.Decision.{admissible, retryAfter}
+use Rattle.rate.specs.Engine.{Engine}
+use Rattle.rate.proofs.Lawful.{Lawful}
+use Rattle.rate.proofs.Limits.{price-within}
+use Rattle.rate.proofs.Rounding.{divUp-least, divUp-mono}
+use Rattle.rate.proofs.Tests.{leb-same}
+
+-- what the wait is, of a backlog
+module _ (p : Plan) (backlog cost : ℕ) (rate : 1 ≤ p .limit) where
+  -- a wait is at least 1
+  pub wait-positive : admissible p backlog cost ≡ false → 1 ≤ retryAfter p backlog cost
+  unfolding admissible retryAfter
+  wait-positive e =
+      let beyond : capacity p < backlog + price p cost = leb-false _ _ e in
+      let none : retryAfter p backlog cost ≤ 0 → backlog + price p cost - capacity p ≤ 0 * p .limit =
+      divUp-least (backlog + price p cost - capacity p) (p .limit) 0 rate .0 in
+      lt-of-not-le (λ z. let none-beyond = none z in omega arith)
+
+  -- and at most cost×P/N rounded up
+  pub wait-most : backlog ≤ capacity p → retryAfter p backlog cost ≤ divUp (price p cost) (p .limit)
+  unfolding retryAfter
+  wait-most h = divUp-mono _ _ _ rate (omega arith)
+
+  -- a backlog that has drained for k ms has room for the cost exactly if the wait is at most k
+  drained-admits : cost ≤ p .burst → (k : ℕ) → admissible p (backlog - ticksIn p k) cost ≡ leb (retryAfter p backlog cost) k
+  unfolding admissible retryAfter ticksIn
+  drained-admits h k =
+      let fits = price-within p cost h in
+      let least = divUp-least (backlog + price p cost - capacity p) (p .limit) k rate in
+      leb-same (backlog - k * p .limit + price p cost) (capacity p) (divUp (backlog + price p cost - capacity p) (p .limit)) k
+      (λ a. least .1 (omega arith)) (λ a. let b = least .0 a in omega arith)
+
+-- the wait is the least: with the record untouched, the same ask k ms later is admitted exactly if the wait is at most k
+pub least-wait : {R : Type 0} {E : Engine R} → Lawful E → (p : Plan) (at : ℕ) (r : R) (cost : ℕ) → 1 ≤ p .limit → cost ≤ p .burst → E .sound p at r ≡ true → (k : ℕ) → E .admits p (at + k) r cost ≡ leb (retryAfter p (E .backlog p at r) cost) k
+least-wait {E = E} L p at r cost rate payable s k =
+    L .admits-iff p (at + k) r cost ∙ rw (L .drains p at (at + k) r (omega arith) s, add-sub-cancel-left at k) (drained-admits p (E .backlog p at r) cost rate payable k)

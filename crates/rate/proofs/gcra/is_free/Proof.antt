@@ -1,0 +1,21 @@
+-- `rate::gcra::is_free` meets its contract: where the moment in ticks is cut off at the largest u64, every TAT is within it.
+-- Assumes nothing.
+use borrow.Author.Needs.{needs}
+use native.Mathlib.Omega.{arith}
+use Rattle.rate.specs.Grains.{ticksIn}
+use Rattle.rate.specs.Gcra.{free}
+use Rattle.rate.proofs.Tests.{leb-same}
+use Rattle.rate.proofs.gcra.is_free.Statement.{statement}
+use Rattle.rate.proofs.gcra.is_free.Tie as tie
+
+ticks-in-requires : tie.Need-ticks-in-requires
+ticks-in-requires c κs = search needs
+
+returns : tie.Need-returns
+unfolding free
+returns c =
+    let a = c .before .before .before .args in
+    leb-same (a .tat .0) (c .before .before .ticks-in .result .0) (a .tat .0) (ticksIn (a .plan) (a .now .0)) (λ h. omega arith) (λ h. omega arith)
+
+pub is-free-spec : {M : Type 1} → statement M
+is-free-spec = tie.close (tie.spec ticks-in-requires returns)

@@ -1,0 +1,85 @@
+// A plan (document 01, 'Grains'): `limit` units per `period` milliseconds, and a burst of `burst` units on top.
+ghost use mathlib.Core.Path.{_≡_};
+ghost use Prim.Native.Nat.{_^_, _-_, _/_, min};
+ghost use Rattle.rate.specs.Grains.{ticksIn, price, capacity, divUp, oneTo, planOk, WithinLimits};
+use crate::round;
+use crate::units::Millis;
+use crate::units::Ticks;
+
+pub struct Plan {
+    pub limit: u32,
+    pub period: u32,
+    pub burst: u32,
+}
+
+// Whether x is at least 1 and at most `most`.
+fn is_one_to(most: u32, x: u32) -> bool
+    ensures { λ r. ⌜ r ≡ oneTo most x ⌝ }
+{
+    if x < 1 {
+        return false;
+    }
+    x <= most
+}
+
+impl Plan {
+    // Whether limit, period and burst are within document 01's limits (check 1).
+    pub fn is_ok(self) -> bool
+        ensures { λ r. ⌜ r ≡ planOk self ⌝ }
+    {
+        if !is_one_to(1_000_000, self.limit) {
+            return false;
+        }
+        if !is_one_to(2_678_400_000, self.period) {
+            return false;
+        }
+        is_one_to(1_000_000, self.burst)
+    }
+
+    // What a cost is in ticks.
+    pub fn price(self, cost: u32) -> Ticks
+        ensures { λ r. ⌜ r .0 ≡ price self cost ⌝ }
+    {
+        Ticks(self.period as u64 * cost as u64)
+    }
+
+    // A full bucket in ticks, the most that may be owed.
+    pub fn capacity(self) -> Ticks
+        ensures { λ r. ⌜ r .0 ≡ capacity self ⌝ }
+    {
+        self.price(self.burst)
+    }
+
+    // What a stretch of time is in ticks. A product of 2^64 or more, which no moment within the clock's limit and no
+    // plan within its limits gives, is the largest u64: at least any stored number, so that no comparison is wrong.
+    pub fn ticks_in(self, span: Millis) -> Ticks
+        ensures { λ r. ⌜ r .0 ≡ min (ticksIn self (span .0)) (2 ^ 64 - 1) ⌝ }
+    {
+        let limit = self.limit as u64;
+        let high = span.0 / 4_294_967_296 * limit;
+        let low = span.0 % 4_294_967_296 * limit;
+        if 4_294_967_296 <= high {
+            return Ticks(18_446_744_073_709_551_615);
+        }
+        let top = high * 4_294_967_296;
+        if 18_446_744_073_709_551_615 - top < low {
+            return Ticks(18_446_744_073_709_551_615);
+        }
+        Ticks(top + low)
+    }
+
+    // The whole milliseconds in a count of ticks, rounded down.
+    pub fn millis_in(self, ticks: Ticks) -> Millis
+        requires { ⌜ WithinLimits self ⌝ }
+        ensures { λ r. ⌜ r .0 ≡ ticks .0 / self .limit ⌝ }
+    {
+        Millis(ticks.0 / self.limit as u64)
+    }
+
+    // The least whole milliseconds in which so many ticks drain: rounded up.
+    pub fn millis_to_drain(self, ticks: Ticks) -> Millis
+        ensures { λ r. ⌜ r .0 ≡ divUp (ticks .0) (self .limit) ⌝ }
+    {
+        Millis(round::div_up(ticks.0, self.limit as u64))
+    }
+}

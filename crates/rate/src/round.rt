@@ -1,0 +1,17 @@
+// Division, rounded up.
+ghost use mathlib.Core.Path.{_≡_};
+ghost use Rattle.rate.specs.Grains.{divUp};
+
+// a / d rounded up, for every a and d; by 0 it is 0.
+pub fn div_up(a: u64, d: u64) -> u64
+    ensures { λ r. ⌜ r ≡ divUp a d ⌝ }
+{
+    if d == 0 {
+        return 0;
+    }
+    let quotient = a / d;
+    if a % d == 0 {
+        return quotient;
+    }
+    quotient + 1
+}
