@@ -6,5 +6,6 @@ pub mod Lawful
 pub mod GcraLaws
 pub mod TokenBucketLaws
 pub mod Cases
+pub mod Fresh
 pub mod Wait
 pub mod Life

@@ -1,10 +1,12 @@
 // The Generic Cell Rate Algorithm on one record (document 01's paced engine). The record is the TAT: the moment, in
 // ticks, at which nothing is owed any more.
 ghost use mathlib.Core.Path.{_≡_};
+ghost use Prim.Native.Nat.{ℕ};
+ghost use Rattle.rate.specs.declared.plan.Plan.{Plan};
 ghost use Rattle.rate.specs.Answer.{verdictOf};
 ghost use Rattle.rate.specs.Decision.{Admitting};
 ghost use Rattle.rate.specs.Engine.{judge, report};
-ghost use Rattle.rate.specs.Gcra.{gcra, sound, free, backlog, spend};
+ghost use Rattle.rate.specs.Gcra.{gcra, fresh, sound, free, backlog, spend};
 ghost use Rattle.rate.specs.Grains.{InForce};
 use crate::answer::Outcome;
 use crate::answer::Reason;
@@ -17,6 +19,13 @@ use crate::units::Ticks;
 pub struct Judgement {
     pub outcome: Outcome,
     pub tat: Ticks,
+}
+
+// The record of a subscriber without one. It is the same under every plan and at every moment: nothing is owed.
+pub fn fresh() -> Ticks
+    ensures { λ r. ⌜ ((p : Plan) (at : ℕ) → r ≡ fresh p at) ⌝ }
+{
+    Ticks(0)
 }
 
 // What the record owes.

@@ -48,7 +48,7 @@ pub fn is_sound(plan: Plan, now: Millis, bucket: Bucket) -> bool
 }
 
 // What is in the bucket now. The time since a last moment that is still to come counts as none.
-pub fn level_now(plan: Plan, now: Millis, bucket: Bucket) -> Ticks
+fn level_now(plan: Plan, now: Millis, bucket: Bucket) -> Ticks
     ensures { λ r. ⌜ r .0 ≡ levelNow plan (now .0) bucket ⌝ }
 {
     let level = bucket.level;

@@ -1,0 +1,40 @@
+-- A subscriber without a record has a full bucket: any cost up to the burst is admitted, and a look shows the burst left
+-- and the moment itself.
+-- Assumes nothing.
+use mathlib.Core.Path.{_≡_, ap, _∙_}
+use mathlib.Core.Bool.{true}
+use Prim.Native.Nat.{ℕ, _+_, _≤_}
+use native.Mathlib.Nat.{sub-zero, zero-div, add-zero, mul-div-right}
+use native.Mathlib.Omega.{arith}
+use borrow.Author.Tests.{le-leb}
+use Rattle.rate.specs.declared.plan.Plan.{Plan}
+use Rattle.rate.specs.Grains.{price, capacity}
+use Rattle.rate.specs.Decision.{admissible, remaining, resetAt, reported}
+use Rattle.rate.specs.Engine.{Engine, report}
+use Rattle.rate.proofs.Cases.{report-sound}
+use Rattle.rate.proofs.Lawful.{Lawful}
+use Rattle.rate.proofs.Limits.{price-within}
+
+pub burst-admissible : (p : Plan) (cost : ℕ) → cost ≤ p .burst → admissible p 0 cost ≡ true
+unfolding admissible
+burst-admissible p cost h =
+    let fits = price-within p cost h in
+    let within : 0 + price p cost ≤ capacity p = omega arith in
+    le-leb (0 + price p cost) (capacity p) within
+
+pub nothing-owed : (p : Plan) (at : ℕ) → 1 ≤ p .period → reported p at 0 ≡ record { number = 0; left = p .burst; reset = at; wait = 0 }
+unfolding reported remaining resetAt capacity
+nothing-owed p at unit = simp (sub-zero, mul-div-right (p .burst) unit, zero-div, add-zero)
+
+module _ {R : Type 0} {E : Engine R} (L : Lawful E) (p : Plan) (at : ℕ) where
+  pub fresh-admits : (cost : ℕ) → cost ≤ p .burst → E .admits p at (E .fresh p at) cost ≡ true
+  fresh-admits cost h =
+      L .admits-iff p at (E .fresh p at) cost
+      ∙ ap (λ (b : ℕ). admissible p b cost) (L .fresh-owes-nothing p at)
+      ∙ burst-admissible p cost h
+
+  pub fresh-report : 1 ≤ p .period → report E p at (E .fresh p at) ≡ record { number = 0; left = p .burst; reset = at; wait = 0 }
+  fresh-report unit =
+      report-sound E p at (E .fresh p at) (L .fresh-sound p at)
+      ∙ ap (λ (b : ℕ). reported p at b) (L .fresh-owes-nothing p at)
+      ∙ nothing-owed p at unit
