@@ -6,6 +6,7 @@ pub mod Lawful
 pub mod GcraLaws
 pub mod TokenBucketLaws
 pub mod Cases
+pub mod Judging
 pub mod Fresh
 pub mod Wait
 pub mod Life

@@ -1,5 +1,5 @@
 // The rules of reckoning (document 01, 'Grains' and 'The decision'): what a plan allows, what one record owes, whether
-// a cost is admitted, and what the answer says. It knows nothing of tables.
+// a cost is admitted, and what the answer says. It knows no table; only the answers name what a table may refuse.
 //
 // Everything turns on one number, the backlog (document 01's debt): what a subscriber still owes at a moment, in
 // ticks. It drains by `limit` ticks a millisecond, down to 0; an admission adds `period` ticks a unit; and a cost is

@@ -6,6 +6,17 @@ use crate::round;
 use crate::units::Millis;
 use crate::units::Ticks;
 
+// The most that document 01 allows; the least of each is 1.
+pub const MOST_LIMIT: u32 = 1_000_000;
+
+pub const MOST_PERIOD: u32 = 2_678_400_000; // 31 days
+
+pub const MOST_BURST: u32 = 1_000_000;
+
+const WORD: u64 = 4_294_967_296; // 2^32
+
+const LARGEST: u64 = 18_446_744_073_709_551_615; // 2^64 - 1
+
 pub struct Plan {
     pub limit: u32,
     pub period: u32,
@@ -27,13 +38,13 @@ impl Plan {
     pub fn is_ok(self) -> bool
         ensures { λ r. ⌜ r ≡ planOk self ⌝ }
     {
-        if !is_one_to(1_000_000, self.limit) {
+        if !is_one_to(MOST_LIMIT, self.limit) {
             return false;
         }
-        if !is_one_to(2_678_400_000, self.period) {
+        if !is_one_to(MOST_PERIOD, self.period) {
             return false;
         }
-        is_one_to(1_000_000, self.burst)
+        is_one_to(MOST_BURST, self.burst)
     }
 
     // What a cost is in ticks.
@@ -56,14 +67,14 @@ impl Plan {
         ensures { λ r. ⌜ r .0 ≡ min (ticksIn self (span .0)) (2 ^ 64 - 1) ⌝ }
     {
         let limit = self.limit as u64;
-        let high = span.0 / 4_294_967_296 * limit;
-        let low = span.0 % 4_294_967_296 * limit;
-        if 4_294_967_296 <= high {
-            return Ticks(18_446_744_073_709_551_615);
+        let high = span.0 / WORD * limit;
+        let low = span.0 % WORD * limit;
+        if WORD <= high {
+            return Ticks(LARGEST);
         }
-        let top = high * 4_294_967_296;
-        if 18_446_744_073_709_551_615 - top < low {
-            return Ticks(18_446_744_073_709_551_615);
+        let top = high * WORD;
+        if LARGEST - top < low {
+            return Ticks(LARGEST);
         }
         Ticks(top + low)
     }

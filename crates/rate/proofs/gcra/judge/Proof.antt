@@ -3,7 +3,7 @@
 use borrow.Author.Needs.{needs}
 use Rattle.rate.specs.Answer.{verdictOf, reasonNumber}
 use Rattle.rate.specs.Gcra.{gcra}
-use Rattle.rate.proofs.Cases.{judges-corrupt, judges-admitted, judges-throttled, admit-takes, throttle-takes}
+use Rattle.rate.proofs.Judging.{judges-corrupt, judges-admitted, judges-throttled, admit-takes, throttle-takes}
 use Rattle.rate.proofs.GcraLaws.{gcra-lawful}
 use Rattle.rate.proofs.gcra.judge.Statement.{statement}
 use Rattle.rate.proofs.gcra.judge.Tie as tie

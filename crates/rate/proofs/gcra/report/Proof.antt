@@ -3,7 +3,7 @@
 use borrow.Author.Needs.{needs}
 use Rattle.rate.specs.Answer.{verdictOf, reasonNumber}
 use Rattle.rate.specs.Gcra.{gcra}
-use Rattle.rate.proofs.Cases.{reports-corrupt, reports-sound, report-takes}
+use Rattle.rate.proofs.Judging.{reports-corrupt, reports-sound, report-takes}
 use Rattle.rate.proofs.GcraLaws.{gcra-lawful}
 use Rattle.rate.proofs.gcra.report.Statement.{statement}
 use Rattle.rate.proofs.gcra.report.Tie as tie

@@ -3,7 +3,7 @@
 use borrow.Author.Needs.{needs}
 use Rattle.rate.specs.Answer.{verdictOf, reasonNumber}
 use Rattle.rate.specs.TokenBucket.{tokenBucket}
-use Rattle.rate.proofs.Cases.{judges-corrupt, judges-admitted, judges-throttled, admit-takes, throttle-takes}
+use Rattle.rate.proofs.Judging.{judges-corrupt, judges-admitted, judges-throttled, admit-takes, throttle-takes}
 use Rattle.rate.proofs.TokenBucketLaws.{token-bucket-lawful}
 use Rattle.rate.proofs.token_bucket.judge.Statement.{statement}
 use Rattle.rate.proofs.token_bucket.judge.Tie as tie

@@ -3,7 +3,7 @@
 use borrow.Author.Needs.{needs}
 use Rattle.rate.specs.Answer.{verdictOf, reasonNumber}
 use Rattle.rate.specs.TokenBucket.{tokenBucket}
-use Rattle.rate.proofs.Cases.{reports-corrupt, reports-sound, report-takes}
+use Rattle.rate.proofs.Judging.{reports-corrupt, reports-sound, report-takes}
 use Rattle.rate.proofs.TokenBucketLaws.{token-bucket-lawful}
 use Rattle.rate.proofs.token_bucket.report.Statement.{statement}
 use Rattle.rate.proofs.token_bucket.report.Tie as tie
