@@ -51,17 +51,22 @@ pub record Covered (p : Plan) (backlog : ℕ) : Type 0 where
   pub plan : WithinLimits p
   pub within : backlog ≤ capacity p
 
--- .. at a moment within the clock's limit
+-- .. and of a cost that is not admitted
+pub record Waiting (p : Plan) (backlog cost : ℕ) : Type 0 where
+  pub within : backlog ≤ capacity p
+  pub beyond : capacity p < backlog + price p cost
+
+-- what `report` requires: no more is owed than a full bucket holds, at a moment within the clock's limit
 pub record Owing (p : Plan) (at backlog : ℕ) : Type 0 where
   pub force : InForce p at
   pub within : backlog ≤ capacity p
 
--- .. and of a cost: it is admitted
+-- what `admit` requires
 pub record Admitting (p : Plan) (at backlog cost : ℕ) : Type 0 where
   pub force : InForce p at
   pub within : backlog + price p cost ≤ capacity p
 
--- .. or it is not
+-- what `throttle` requires
 pub record Throttling (p : Plan) (at backlog cost : ℕ) : Type 0 where
   pub force : InForce p at
   pub within : backlog ≤ capacity p

@@ -1,7 +1,7 @@
 // Left, reset and wait (document 01, 'The decision'), from a backlog. Both engines answer through these functions.
 ghost use mathlib.Core.Path.{_≡_};
 ghost use Rattle.rate.specs.Answer.{verdictOf};
-ghost use Rattle.rate.specs.Decision.{admissible, remaining, resetAt, retryAfter, reported, admitted, throttled, Covered, Owing, Admitting, Throttling};
+ghost use Rattle.rate.specs.Decision.{admissible, remaining, resetAt, retryAfter, reported, admitted, throttled, Covered, Waiting, Owing, Admitting, Throttling};
 use crate::answer::Outcome;
 use crate::plan::Plan;
 use crate::units::Millis;
@@ -38,14 +38,14 @@ fn reset_at(plan: Plan, now: Millis, backlog: Ticks) -> Millis
 }
 
 // Wait: the least whole milliseconds until the cost is admitted, rounded up.
-fn retry_after(plan: Plan, now: Millis, backlog: Ticks, cost: u32) -> Millis
-    requires { ⌜ Throttling plan (now .0) (backlog .0) cost ⌝ }
+fn retry_after(plan: Plan, backlog: Ticks, cost: u32) -> Millis
+    requires { ⌜ Waiting plan (backlog .0) cost ⌝ }
     ensures { λ r. ⌜ r .0 ≡ retryAfter plan (backlog .0) cost ⌝ }
 {
     let capacity = plan.capacity();
-    let price = plan.price(cost);
+    let wanted = plan.price(cost);
     let spare = capacity.0 - backlog.0;
-    plan.millis_to_drain(Ticks(price.0 - spare))
+    plan.millis_to_drain(Ticks(wanted.0 - spare))
 }
 
 // What a backlog leaves, spending nothing.
@@ -64,8 +64,8 @@ pub fn admit(plan: Plan, now: Millis, backlog: Ticks, cost: u32) -> Outcome
     requires { ⌜ Admitting plan (now .0) (backlog .0) cost ⌝ }
     ensures { λ r. ⌜ verdictOf r ≡ admitted plan (now .0) (backlog .0) cost ⌝ }
 {
-    let price = plan.price(cost);
-    report(plan, now, Ticks(backlog.0 + price.0))
+    let added = plan.price(cost);
+    report(plan, now, Ticks(backlog.0 + added.0))
 }
 
 // The answer to a request that must wait.
@@ -76,6 +76,6 @@ pub fn throttle(plan: Plan, now: Millis, backlog: Ticks, cost: u32) -> Outcome
     Outcome::Throttled {
         remaining: remaining(plan, backlog),
         reset_at: reset_at(plan, now, backlog),
-        retry_after: retry_after(plan, now, backlog, cost),
+        retry_after: retry_after(plan, backlog, cost),
     }
 }
