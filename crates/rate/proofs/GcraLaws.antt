@@ -1,6 +1,6 @@
 -- GCRA has the backlog law: its record is the moment, in ticks, at which the backlog is gone.
 -- Assumes nothing.
-use mathlib.Core.Path.{_≡_, refl, sym, _∙_, ap}
+use mathlib.Core.Path.{_≡_}
 use mathlib.Core.Bool.{true, false, _&&_, and-false}
 use Prim.Native.Nat.{ℕ, _+_, _-_, _≤_, _<_, max}
 use native.Mathlib.Omega.{arith}
@@ -12,7 +12,7 @@ use Rattle.rate.specs.Grains.{ticksIn, price, capacity}
 use Rattle.rate.specs.Decision.{admissible}
 use Rattle.rate.specs.Gcra.{gcra, fresh, sound, free, later, backlog, admits, spend}
 use Rattle.rate.proofs.Lawful.{Lawful}
-use Rattle.rate.proofs.Limits.{ticks-split}
+use Rattle.rate.proofs.Products.{ticks-split}
 use Rattle.rate.proofs.Tests.{leb-same, by-leb}
 
 owes-nothing : (p : Plan) (at : ℕ) (r : Ticks) → r .0 ≤ ticksIn p at → backlog p at r ≡ 0

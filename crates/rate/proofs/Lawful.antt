@@ -2,7 +2,7 @@
 -- use an engine through this record alone. `GcraLaws` and `TokenBucketLaws` show it of the two engines.
 -- Assumes nothing.
 use mathlib.Core.Path.{_≡_}
-use mathlib.Core.Bool.{true, false, _&&_}
+use mathlib.Core.Bool.{true, _&&_}
 use Prim.Native.Nat.{ℕ, _+_, _-_, _≤_}
 use lib.Dec.{eqb}
 use Rattle.rate.specs.declared.plan.Plan.{Plan}

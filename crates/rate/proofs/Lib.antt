@@ -2,6 +2,7 @@
 pub mod Tests
 pub mod Rounding
 pub mod Limits
+pub mod Products
 pub mod Lawful
 pub mod GcraLaws
 pub mod TokenBucketLaws

@@ -12,7 +12,7 @@ use Rattle.rate.specs.Grains.{ticksIn, price, capacity}
 use Rattle.rate.specs.Decision.{admissible}
 use Rattle.rate.specs.TokenBucket.{tokenBucket, fresh, sound, refilled, free, levelNow, backlog, admits, spend}
 use Rattle.rate.proofs.Lawful.{Lawful}
-use Rattle.rate.proofs.Limits.{ticks-split, ticks-none}
+use Rattle.rate.proofs.Products.{ticks-split, ticks-none}
 use Rattle.rate.proofs.Tests.{both, leb-same, by-leb}
 
 regroup : (a b c : Bool) → (a && (b && c)) ≡ ((b && a) && c)

@@ -3,7 +3,7 @@ use Prim.Native.Nat.{ℕ, _≤_}
 use mathlib.Core.List.{List, [], _∷_}
 use Rattle.rate.specs.declared.plan.Plan.{Plan}
 use Rattle.rate.specs.Decision.{Verdict}
-use Rattle.rate.specs.Engine.{Engine, Judged, judge}
+use Rattle.rate.specs.Engine.{Engine, judge}
 
 pub record Ask : Type 0 where
   pub moment : ℕ

@@ -203,10 +203,9 @@ pub fn bucket_extremes() {
 // Document 001's case: 10 a second, burst 10, an ask of cost 1 every millisecond from 0 to 3000.
 pub fn steady() {
     let p = plan_of(10, 1000, 10);
-    line::word(b"steady_gcra");
-    line::number(reckon::gcra_steady(p, 3001) as u64);
-    line::end();
-    line::word(b"steady_token_bucket");
-    line::number(reckon::bucket_steady(p, 3001) as u64);
+    let admitted = reckon::steady(p, 3001);
+    line::word(b"steady");
+    line::number(admitted.gcra as u64);
+    line::number(admitted.bucket as u64);
     line::end();
 }

@@ -1,5 +1,6 @@
 // One line for each thing that is tried. The checks that need no table come first: 1 and 3, before an ask 5 and 6 too.
 ghost use mathlib.Core.Path.{_≡_};
+ghost use Prim.Native.Nat.{_≤_};
 ghost use Rattle.rate.specs.Grains.{InForce};
 use crate::line;
 use rate::answer::Outcome;
@@ -17,7 +18,19 @@ pub enum Check {
     Failed(Reason),
 }
 
-pub fn checked(plan: Plan, now: Millis, cost: u32) -> Check
+// A look and an ask on the same record.
+struct GcraTried {
+    look: Outcome,
+    ask: gcra::Judgement,
+}
+
+struct BucketTried {
+    look: Outcome,
+    ask: token_bucket::Judgement,
+}
+
+// Checks 1 and 3.
+pub fn checked(plan: Plan, now: Millis) -> Check
     ensures { λ r. ⌜ (r ≡ Check.Passed → InForce plan (now .0)) ⌝ }
 {
     if !plan.is_ok() {
@@ -26,6 +39,11 @@ pub fn checked(plan: Plan, now: Millis, cost: u32) -> Check
     if !now.is_on_clock() {
         return Check::Failed(Reason::LateMoment);
     }
+    Check::Passed
+}
+
+// Checks 5 and 6.
+fn cost_checked(plan: Plan, cost: u32) -> Check {
     if cost == 0 {
         return Check::Failed(Reason::ZeroCost);
     }
@@ -35,36 +53,48 @@ pub fn checked(plan: Plan, now: Millis, cost: u32) -> Check
     Check::Passed
 }
 
-fn gcra_look(plan: Plan, now: Millis, tat: Ticks) -> Outcome {
-    match checked(plan, now, 1) {
-        Check::Passed => gcra::report(plan, now, tat),
-        Check::Failed(reason) => Outcome::Refused(reason),
+fn gcra_refused(reason: Reason, tat: Ticks) -> gcra::Judgement {
+    gcra::Judgement {
+        outcome: Outcome::Refused(reason),
+        tat,
     }
 }
 
-fn gcra_ask(plan: Plan, now: Millis, tat: Ticks, cost: u32) -> gcra::Judgement {
-    match checked(plan, now, cost) {
-        Check::Passed => gcra::judge(plan, now, tat, cost),
-        Check::Failed(reason) => gcra::Judgement {
-            outcome: Outcome::Refused(reason),
-            tat,
+fn try_gcra(plan: Plan, now: Millis, tat: Ticks, cost: u32) -> GcraTried {
+    match checked(plan, now) {
+        Check::Failed(reason) => GcraTried {
+            look: Outcome::Refused(reason),
+            ask: gcra_refused(reason, tat),
+        },
+        Check::Passed => GcraTried {
+            look: gcra::report(plan, now, tat),
+            ask: match cost_checked(plan, cost) {
+                Check::Failed(reason) => gcra_refused(reason, tat),
+                Check::Passed => gcra::judge(plan, now, tat, cost),
+            },
         },
     }
 }
 
-fn bucket_look(plan: Plan, now: Millis, bucket: Bucket) -> Outcome {
-    match checked(plan, now, 1) {
-        Check::Passed => token_bucket::report(plan, now, bucket),
-        Check::Failed(reason) => Outcome::Refused(reason),
+fn bucket_refused(reason: Reason, bucket: Bucket) -> token_bucket::Judgement {
+    token_bucket::Judgement {
+        outcome: Outcome::Refused(reason),
+        bucket,
     }
 }
 
-fn bucket_ask(plan: Plan, now: Millis, bucket: Bucket, cost: u32) -> token_bucket::Judgement {
-    match checked(plan, now, cost) {
-        Check::Passed => token_bucket::judge(plan, now, bucket, cost),
-        Check::Failed(reason) => token_bucket::Judgement {
-            outcome: Outcome::Refused(reason),
-            bucket,
+fn try_bucket(plan: Plan, now: Millis, bucket: Bucket, cost: u32) -> BucketTried {
+    match checked(plan, now) {
+        Check::Failed(reason) => BucketTried {
+            look: Outcome::Refused(reason),
+            ask: bucket_refused(reason, bucket),
+        },
+        Check::Passed => BucketTried {
+            look: token_bucket::report(plan, now, bucket),
+            ask: match cost_checked(plan, cost) {
+                Check::Failed(reason) => bucket_refused(reason, bucket),
+                Check::Passed => token_bucket::judge(plan, now, bucket, cost),
+            },
         },
     }
 }
@@ -109,10 +139,12 @@ pub fn gcra(plan: Plan, at: u64, tat: u64, cost: u32) -> u64 {
     line::number(tat);
     line::number(cost as u64);
     line::flag(gcra::is_free(plan, now, Ticks(tat)));
-    line::outcome(gcra_look(plan, now, Ticks(tat)));
-    let j = gcra_ask(plan, now, Ticks(tat), cost);
-    let outcome = j.outcome;
-    let after = j.tat;
+    let tried = try_gcra(plan, now, Ticks(tat), cost);
+    let look = tried.look;
+    let ask = tried.ask;
+    let outcome = ask.outcome;
+    let after = ask.tat;
+    line::outcome(look);
     line::outcome(outcome);
     line::number(after.0);
     line::end();
@@ -132,12 +164,14 @@ pub fn bucket(plan: Plan, at: u64, bucket: Bucket, cost: u32) -> Bucket {
     line::number(last.0);
     line::number(cost as u64);
     line::flag(token_bucket::is_free(plan, now, bucket));
-    line::outcome(bucket_look(plan, now, bucket));
-    let j = bucket_ask(plan, now, bucket, cost);
-    let outcome = j.outcome;
-    let after = j.bucket;
+    let tried = try_bucket(plan, now, bucket, cost);
+    let look = tried.look;
+    let ask = tried.ask;
+    let outcome = ask.outcome;
+    let after = ask.bucket;
     let level_after = after.level;
     let last_after = after.last;
+    line::outcome(look);
     line::outcome(outcome);
     line::number(level_after.0);
     line::number(last_after.0);
@@ -145,31 +179,40 @@ pub fn bucket(plan: Plan, at: u64, bucket: Bucket, cost: u32) -> Bucket {
     after
 }
 
-// how many of the asks of cost 1 at 0, 1, .. up to `last` are admitted, on a record that starts fresh
-pub fn gcra_steady(plan: Plan, last: u32) -> u32 {
-    let mut tat = gcra::fresh();
-    let mut admitted = 0;
-    for t in 0..last {
-        let j = gcra_ask(plan, Millis(t as u64), tat, 1);
-        let outcome = j.outcome;
-        tat = j.tat;
-        if let Outcome::Admitted { .. } = outcome {
-            admitted += 1;
-        }
-    }
-    admitted
+// How many asks each engine admitted.
+pub struct Counts {
+    pub gcra: u32,
+    pub bucket: u32,
 }
 
-pub fn bucket_steady(plan: Plan, last: u32) -> u32 {
-    let mut bucket = token_bucket::fresh(plan, Millis(0));
-    let mut admitted = 0;
-    for t in 0..last {
-        let j = bucket_ask(plan, Millis(t as u64), bucket, 1);
-        let outcome = j.outcome;
-        bucket = j.bucket;
-        if let Outcome::Admitted { .. } = outcome {
-            admitted += 1;
-        }
+// 1 for an admission, else 0
+fn admissions(outcome: Outcome) -> u32
+    ensures { λ r. ⌜ r ≤ 1 ⌝ }
+{
+    if let Outcome::Admitted { .. } = outcome {
+        return 1;
     }
-    admitted
+    0
+}
+
+// how many of the asks of cost 1 at 0, 1, .. below `end` are admitted, on records that start fresh
+pub fn steady(plan: Plan, end: u32) -> Counts {
+    let mut tat = gcra::fresh();
+    let mut bucket = token_bucket::fresh(plan, Millis(0));
+    let mut by_gcra = 0;
+    let mut by_bucket = 0;
+    for t in 0..end {
+        let a = try_gcra(plan, Millis(t as u64), tat, 1).ask;
+        let b = try_bucket(plan, Millis(t as u64), bucket, 1).ask;
+        let a_outcome = a.outcome;
+        let b_outcome = b.outcome;
+        by_gcra += admissions(a_outcome);
+        by_bucket += admissions(b_outcome);
+        tat = a.tat;
+        bucket = b.bucket;
+    }
+    Counts {
+        gcra: by_gcra,
+        bucket: by_bucket,
+    }
 }

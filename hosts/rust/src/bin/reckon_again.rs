@@ -33,7 +33,6 @@ fn tried<R: Record>(
 
 /// How many of a line's numbers are its input, and its output from them.
 fn reckon(word: &str, numbers: &[u128]) -> (usize, Vec<u128>) {
-    let steadily = Plan::new(10, 1000, 10);
     match word {
         "plan" => (3, vec![plan_of(numbers).within_limits() as u128]),
         "moment" => (1, vec![(numbers[0] <= LAST_MOMENT) as u128]),
@@ -59,10 +58,16 @@ fn reckon(word: &str, numbers: &[u128]) -> (usize, Vec<u128>) {
                 }),
             )
         }
-        "steady_gcra" => (0, vec![steady(&steadily, Paced(0), 3001)]),
-        "steady_token_bucket" => {
-            let level = steadily.full();
-            (0, vec![steady(&steadily, Bucket { level, last: 0 }, 3001)])
+        "steady" => {
+            let plan = Plan::new(10, 1000, 10);
+            let full = Bucket {
+                level: plan.full(),
+                last: 0,
+            };
+            (
+                0,
+                vec![steady(&plan, Paced(0), 3001), steady(&plan, full, 3001)],
+            )
         }
         _ => panic!("a line begins with {word:?}, which nothing here reckons"),
     }

@@ -22,17 +22,8 @@ returns-2 : tie.Need-returns-2
 returns-2 c = λ e. let z : _≡_ {A = ℕ} 0 1 = cc in absurd (omega arith)
 
 returns-3 : tie.Need-returns-3
-returns-3 c = λ e. let z : _≡_ {A = ℕ} 0 1 = cc in absurd (omega arith)
-
-returns-4 : tie.Need-returns-4
-returns-4 c = λ e. let z : _≡_ {A = ℕ} 0 1 = cc in absurd (omega arith)
-
-returns-5 : tie.Need-returns-5
-returns-5 c = λ e. in-force (c .before .before .before .before .before .before .before .args .plan) (c .before .before .before .before .before .before .before .args .now .0)
-    (sym (c .before .before .before .before .before .before .is-ok .ensures) ∙ not-false _ (c .before .before .before .before .before .if1 .left))
-    (sym (c .before .before .before .before .is-on-clock .ensures) ∙ not-false _ (c .before .before .before .if2 .left))
+returns-3 c =
+    λ e. in-force (c .before .before .before .before .args .plan) (c .before .before .before .before .args .now .0) (sym (c .before .before .before .is-ok .ensures) ∙ not-false _ (c .before .before .if1 .left)) (sym (c .before .is-on-clock .ensures) ∙ not-false _ (c .if2 .left))
 
 pub checked-spec : {M : Type 1} → statement M
-checked-spec =
-    tie.close
-    (tie.spec is-ok-requires returns is-on-clock-requires returns-2 returns-3 returns-4 returns-5)
+checked-spec = tie.close (tie.spec is-ok-requires returns is-on-clock-requires returns-2 returns-3)

@@ -4,7 +4,7 @@
 use borrow.Author.Needs.{needs}
 use native.Mathlib.Omega.{arith}
 use Rattle.rate.specs.Grains.{ticksIn}
-use Rattle.rate.proofs.Limits.{product-fits, product-split}
+use Rattle.rate.proofs.Products.{product-fits, product-split}
 use Rattle.rate.proofs.plan.Plan.ticks_in.Statement.{statement}
 use Rattle.rate.proofs.plan.Plan.ticks_in.Tie as tie
 

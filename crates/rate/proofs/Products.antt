@@ -1,0 +1,31 @@
+-- Ticks of times that add up, and the products that reckon them.
+-- Assumes nothing.
+use mathlib.Core.Path.{_≡_, sym, ap, _∙_}
+use Prim.Native.Nat.{ℕ, _+_, _-_, _*_, _/_, _%_, _^_, _≤_, _<_}
+use native.Mathlib.Nat.{add-mul, mul-le-mul, mul-right-comm, sub-self, zero-mul, div-add-mod'}
+use native.Mathlib.Omega.{arith}
+use Rattle.rate.specs.declared.plan.Plan.{Plan}
+use Rattle.rate.specs.Grains.{ticksIn}
+
+-- ticks of a time that is the sum of two
+pub ticks-split : (p : Plan) (l k : ℕ) → l ≤ k → ticksIn p k ≡ ticksIn p l + ticksIn p (k - l)
+unfolding ticksIn
+ticks-split p l k h = let e : k ≡ l + (k - l) = omega arith in rw (← add-mul l (k - l) (p .limit), ← e)
+
+-- ticks of no time
+pub ticks-none : (p : Plan) (at : ℕ) → ticksIn p (at - at) ≡ 0
+unfolding ticksIn
+ticks-none p at = simp (sub-self, zero-mul)
+
+-- a product of two numbers of 32 bits fits 64
+pub product-fits : (a b : ℕ) → a < 2 ^ 32 → b < 2 ^ 32 → a * b < 2 ^ 64
+product-fits a b ha hb =
+    let h : a * b ≤ (2 ^ 32 - 1) * (2 ^ 32 - 1) = mul-le-mul {n₂ = 2 ^ 32 - 1} {m₂ = 2 ^ 32 - 1} (omega arith) (omega arith) in
+    omega arith
+
+-- a product by way of the upper and the lower 32 bits of one factor
+pub product-split : (s n : ℕ) → s * n ≡ s / 2 ^ 32 * n * 2 ^ 32 + s % 2 ^ 32 * n
+product-split s n =
+    let whole : s ≡ s / 2 ^ 32 * 2 ^ 32 + s % 2 ^ 32 = sym (div-add-mod' s (2 ^ 32)) in
+    ap (λ (x : ℕ). x * n) whole ∙ add-mul (s / 2 ^ 32 * 2 ^ 32) (s % 2 ^ 32) n
+    ∙ ap (λ (x : ℕ). x + s % 2 ^ 32 * n) (mul-right-comm (s / 2 ^ 32) (2 ^ 32) n)
