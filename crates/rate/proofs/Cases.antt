@@ -12,11 +12,15 @@ module _ {R : Type 0} (E : Engine R) (p : Plan) (at : ℕ) (r : R) where
   unfolding judge
   judge-corrupt cost s = rw s
 
-  pub judge-admitted : (cost : ℕ) → E .sound p at r ≡ true → E .admits p at r cost ≡ true → judge E p at r cost ≡ record { verdict = admitted p at (E .backlog p at r) cost; after = E .spend p at r cost }
+  pub judge-admitted :
+      (cost : ℕ) → E .sound p at r ≡ true → E .admits p at r cost ≡ true →
+      judge E p at r cost ≡ record { verdict = admitted p at (E .backlog p at r) cost; after = E .spend p at r cost }
   unfolding judge
   judge-admitted cost s a = rw (s, a)
 
-  pub judge-throttled : (cost : ℕ) → E .sound p at r ≡ true → E .admits p at r cost ≡ false → judge E p at r cost ≡ record { verdict = throttled p at (E .backlog p at r) cost; after = r }
+  pub judge-throttled :
+      (cost : ℕ) → E .sound p at r ≡ true → E .admits p at r cost ≡ false →
+      judge E p at r cost ≡ record { verdict = throttled p at (E .backlog p at r) cost; after = r }
   unfolding judge
   judge-throttled cost s a = rw (s, a)
 

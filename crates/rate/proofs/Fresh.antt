@@ -22,7 +22,8 @@ burst-admissible p cost h =
     let within : 0 + price p cost ≤ capacity p = omega arith in
     le-leb (0 + price p cost) (capacity p) within
 
-pub nothing-owed : (p : Plan) (at : ℕ) → 1 ≤ p .period → reported p at 0 ≡ record { number = 0; left = p .burst; reset = at; wait = 0 }
+pub nothing-owed :
+    (p : Plan) (at : ℕ) → 1 ≤ p .period → reported p at 0 ≡ record { number = 0; left = p .burst; reset = at; wait = 0 }
 unfolding reported remaining resetAt capacity
 nothing-owed p at unit = simp (sub-zero, mul-div-right (p .burst) unit, zero-div, add-zero)
 
@@ -33,7 +34,8 @@ module _ {R : Type 0} {E : Engine R} (L : Lawful E) (p : Plan) (at : ℕ) where
       ∙ ap (λ (b : ℕ). admissible p b cost) (L .fresh-owes-nothing p at)
       ∙ burst-admissible p cost h
 
-  pub fresh-report : 1 ≤ p .period → report E p at (E .fresh p at) ≡ record { number = 0; left = p .burst; reset = at; wait = 0 }
+  pub fresh-report :
+      1 ≤ p .period → report E p at (E .fresh p at) ≡ record { number = 0; left = p .burst; reset = at; wait = 0 }
   fresh-report unit =
       report-sound E p at (E .fresh p at) (L .fresh-sound p at)
       ∙ ap (λ (b : ℕ). reported p at b) (L .fresh-owes-nothing p at)

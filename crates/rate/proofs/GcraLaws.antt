@@ -63,7 +63,9 @@ admits-iff p at r cost =
     leb-same (max (r .0) (ticksIn p at) + price p cost - capacity p) (ticksIn p at) (max (r .0) (ticksIn p at) - ticksIn p at + price p cost) (capacity p)
     (λ h. omega arith) (λ h. omega arith)
 
-spends : (p : Plan) (at : ℕ) (r : Ticks) (cost : ℕ) → admits p at r cost ≡ true → backlog p at (spend p at r cost) ≡ backlog p at r + price p cost
+spends :
+    (p : Plan) (at : ℕ) (r : Ticks) (cost : ℕ) → admits p at r cost ≡ true →
+    backlog p at (spend p at r cost) ≡ backlog p at r + price p cost
 unfolding backlog later spend
 spends p at r cost e = omega arith
 

@@ -16,39 +16,57 @@ module _ {R : Type 0} {E : Engine R} (L : Lawful E) {p : Plan} {at : ℕ} (r : R
   pub reports-corrupt : {ok : Bool} → ok ≡ E .sound p at r → not ok ≡ true → bare 7 ≡ report E p at r
   reports-corrupt says failed = sym (report-corrupt E p at r (sym says ∙ not-true _ failed))
 
-  pub reports-sound : {ok : Bool} {owed : ℕ} {v : Verdict} → ok ≡ E .sound p at r → not ok ≡ false → owed ≡ E .backlog p at r → v ≡ reported p at owed → v ≡ report E p at r
+  pub reports-sound :
+      {ok : Bool} {owed : ℕ} {v : Verdict} → ok ≡ E .sound p at r → not ok ≡ false → owed ≡ E .backlog p at r →
+      v ≡ reported p at owed → v ≡ report E p at r
   reports-sound says passed owes e =
       e ∙ ap (λ (b : ℕ). reported p at b) owes ∙ sym (report-sound E p at r (sym says ∙ not-false _ passed))
 
   owes-within : {ok : Bool} {owed : ℕ} → ok ≡ E .sound p at r → not ok ≡ false → owed ≡ E .backlog p at r → owed ≤ capacity p
   owes-within says passed owes = rw owes (L .within p at r (sym says ∙ not-false _ passed))
 
-  pub report-takes : {ok : Bool} {owed : ℕ} → InForce p at → ok ≡ E .sound p at r → not ok ≡ false → owed ≡ E .backlog p at r → Owing p at owed
+  pub report-takes :
+      {ok : Bool} {owed : ℕ} → InForce p at → ok ≡ E .sound p at r → not ok ≡ false → owed ≡ E .backlog p at r →
+      Owing p at owed
   report-takes force says passed owes = record { force = force; within = owes-within says passed owes }
 
   module _ (cost : ℕ) where
-    pub judges-corrupt : {ok : Bool} → ok ≡ E .sound p at r → not ok ≡ true → (bare 7 ≡ judge E p at r cost .verdict) × (r ≡ judge E p at r cost .after)
+    pub judges-corrupt :
+        {ok : Bool} → ok ≡ E .sound p at r → not ok ≡ true →
+        (bare 7 ≡ judge E p at r cost .verdict) × (r ≡ judge E p at r cost .after)
     judges-corrupt says failed = rw (judge-corrupt E p at r cost (sym says ∙ not-true _ failed)) (refl, refl)
 
-    test : {owed : ℕ} {fits t : Bool} → owed ≡ E .backlog p at r → fits ≡ admissible p owed cost → fits ≡ t → E .admits p at r cost ≡ t
+    test :
+        {owed : ℕ} {fits t : Bool} → owed ≡ E .backlog p at r → fits ≡ admissible p owed cost → fits ≡ t →
+        E .admits p at r cost ≡ t
     test owes tests e =
         L .admits-iff p at r cost ∙ sym (ap (λ (b : ℕ). admissible p b cost) owes) ∙ sym tests ∙ e
 
-    pub judges-admitted : {ok fits : Bool} {owed : ℕ} {v : Verdict} {s : R} → ok ≡ E .sound p at r → not ok ≡ false → owed ≡ E .backlog p at r → fits ≡ admissible p owed cost → fits ≡ true → v ≡ admitted p at owed cost → s ≡ E .spend p at r cost → (v ≡ judge E p at r cost .verdict) × (s ≡ judge E p at r cost .after)
+    pub judges-admitted :
+        {ok fits : Bool} {owed : ℕ} {v : Verdict} {s : R} → ok ≡ E .sound p at r → not ok ≡ false →
+        owed ≡ E .backlog p at r → fits ≡ admissible p owed cost → fits ≡ true → v ≡ admitted p at owed cost →
+        s ≡ E .spend p at r cost → (v ≡ judge E p at r cost .verdict) × (s ≡ judge E p at r cost .after)
     judges-admitted says passed owes tests fit e spent =
         rw (judge-admitted E p at r cost (sym says ∙ not-false _ passed) (test owes tests fit))
         (e ∙ ap (λ (b : ℕ). admitted p at b cost) owes, spent)
 
-    pub judges-throttled : {ok fits : Bool} {owed : ℕ} {v : Verdict} → ok ≡ E .sound p at r → not ok ≡ false → owed ≡ E .backlog p at r → fits ≡ admissible p owed cost → fits ≡ false → v ≡ throttled p at owed cost → (v ≡ judge E p at r cost .verdict) × (r ≡ judge E p at r cost .after)
+    pub judges-throttled :
+        {ok fits : Bool} {owed : ℕ} {v : Verdict} → ok ≡ E .sound p at r → not ok ≡ false → owed ≡ E .backlog p at r →
+        fits ≡ admissible p owed cost → fits ≡ false → v ≡ throttled p at owed cost →
+        (v ≡ judge E p at r cost .verdict) × (r ≡ judge E p at r cost .after)
     judges-throttled says passed owes tests unfit e =
         rw (judge-throttled E p at r cost (sym says ∙ not-false _ passed) (test owes tests unfit))
         (e ∙ ap (λ (b : ℕ). throttled p at b cost) owes, refl)
 
-    pub throttle-takes : {ok fits : Bool} {owed : ℕ} → InForce p at → ok ≡ E .sound p at r → not ok ≡ false → owed ≡ E .backlog p at r → fits ≡ admissible p owed cost → fits ≡ false → Throttling p at owed cost
+    pub throttle-takes :
+        {ok fits : Bool} {owed : ℕ} → InForce p at → ok ≡ E .sound p at r → not ok ≡ false → owed ≡ E .backlog p at r →
+        fits ≡ admissible p owed cost → fits ≡ false → Throttling p at owed cost
     unfolding admissible
     throttle-takes force says passed owes tests unfit =
         record { force = force; within = owes-within says passed owes; beyond = leb-false _ _ (sym tests ∙ unfit) }
 
-pub admit-takes : {p : Plan} {at owed cost : ℕ} {fits : Bool} → InForce p at → fits ≡ admissible p owed cost → fits ≡ true → Admitting p at owed cost
+pub admit-takes :
+    {p : Plan} {at owed cost : ℕ} {fits : Bool} → InForce p at → fits ≡ admissible p owed cost → fits ≡ true →
+    Admitting p at owed cost
 unfolding admissible
 admit-takes force tests fit = record { force = force; within = leb-true _ _ (sym tests ∙ fit) }

@@ -12,7 +12,7 @@ use Rattle.rate.specs.Decision.{admissible, admitted, throttled}
 use Rattle.rate.specs.Engine.{Engine, Judged, judge}
 use Rattle.rate.specs.Gcra.{gcra}
 use Rattle.rate.specs.TokenBucket.{tokenBucket}
-use Rattle.rate.specs.Life.{Ask, Rising, newest, lived, verdicts}
+use Rattle.rate.specs.Life.{Ask, Rising, newest, lived, verdicts, Agreement}
 use Rattle.rate.proofs.Lawful.{Lawful}
 use Rattle.rate.proofs.GcraLaws.{gcra-lawful}
 use Rattle.rate.proofs.TokenBucketLaws.{token-bucket-lawful}
@@ -46,7 +46,8 @@ module _ {R S : Type 0} {E : Engine R} {F : Engine S} (L : Lawful E) (M : Lawful
       ∙ ap (λ (b : ℕ). admissible p b cost) (a .same)
       ∙ sym (M .admits-iff p at s cost)
 
-  pub ask-agrees : (at : ℕ) (r : R) (s : S) (cost : ℕ) → Alike E F p at r s → Agreed E F p at (judge E p at r cost) (judge F p at s cost)
+  pub ask-agrees :
+      (at : ℕ) (r : R) (s : S) (cost : ℕ) → Alike E F p at r s → Agreed E F p at (judge E p at r cost) (judge F p at s cost)
   ask-agrees at r s cost a = by (E .admits p at r cost) refl
     where
       by : (t : Bool) → E .admits p at r cost ≡ t → Agreed E F p at (judge E p at r cost) (judge F p at s cost)
@@ -68,7 +69,9 @@ module _ {R S : Type 0} {E : Engine R} {F : Engine S} (L : Lawful E) (M : Lawful
           rw (judge-throttled E p at r cost (a .left-sound) e, judge-throttled F p at s cost (a .right-sound) f)
           (record { verdict = ap (λ (b : ℕ). throttled p at b cost) (a .same); after = a })
 
-  pub life-agrees : (asks : List Ask) (from : ℕ) (r : R) (s : S) → Rising from asks → Alike E F p from r s → (verdicts E p r asks ≡ verdicts F p s asks) × Alike E F p (newest from asks) (lived E p r asks) (lived F p s asks)
+  pub life-agrees :
+      (asks : List Ask) (from : ℕ) (r : R) (s : S) → Rising from asks → Alike E F p from r s →
+      (verdicts E p r asks ≡ verdicts F p s asks) × Alike E F p (newest from asks) (lived E p r asks) (lived F p s asks)
   unfolding newest lived verdicts
   life-agrees [] from r s up a = (refl, a)
   life-agrees (q ∷ rest) from r s up a =
@@ -76,17 +79,20 @@ module _ {R S : Type 0} {E : Engine R} {F : Engine S} (L : Lawful E) (M : Lawful
       let then = life-agrees rest (q .moment) (judge E p (q .moment) r (q .cost) .after) (judge F p (q .moment) s (q .cost) .after) (up .1) (now .after) in
       (ap₂ _∷_ (now .verdict) (then .0), then .1)
 
--- over one record's life, from fresh records and with moments that never fall, GCRA and the token bucket give the same
--- answers and at any later moment owe the same
-pub engines-agree : (p : Plan) (from : ℕ) (asks : List Ask) → Rising from asks → (verdicts gcra p (gcra .fresh p from) asks ≡ verdicts tokenBucket p (tokenBucket .fresh p from) asks) × ((k : ℕ) → newest from asks ≤ k → gcra .backlog p k (lived gcra p (gcra .fresh p from) asks) ≡ tokenBucket .backlog p k (lived tokenBucket p (tokenBucket .fresh p from) asks))
+-- over one record's life, with moments that never fall, GCRA and the token bucket agree
+pub engines-agree : (p : Plan) (from : ℕ) (asks : List Ask) → Rising from asks → Agreement p from asks
 engines-agree p from asks up =
-    let fresh : Alike gcra tokenBucket p from (gcra .fresh p from) (tokenBucket .fresh p from) =
+    let r = gcra .fresh p from in
+    let s = tokenBucket .fresh p from in
+    let fresh : Alike gcra tokenBucket p from r s =
     record {
       left-sound = gcra-lawful .fresh-sound p from;
       right-sound = token-bucket-lawful .fresh-sound p from;
       same = gcra-lawful .fresh-owes-nothing p from ∙ sym (token-bucket-lawful .fresh-owes-nothing p from);
     } in
-    let whole = life-agrees gcra-lawful token-bucket-lawful p asks from (gcra .fresh p from) (tokenBucket .fresh p from) up fresh in (
-      whole .0,
-      λ k h. later gcra-lawful token-bucket-lawful p (newest from asks) k (lived gcra p (gcra .fresh p from) asks) (lived tokenBucket p (tokenBucket .fresh p from) asks) h (whole .1) .same,
-    )
+    let whole = life-agrees gcra-lawful token-bucket-lawful p asks from r s up fresh in
+    record {
+      answers = whole .0;
+      backlogs =
+          λ k h. later gcra-lawful token-bucket-lawful p (newest from asks) k (lived gcra p r asks) (lived tokenBucket p s asks) h (whole .1) .same;
+    }

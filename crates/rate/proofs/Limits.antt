@@ -7,7 +7,7 @@ use native.Mathlib.Nat.{mul-le-mul, mul-le-mul-left, div-le-of-le-mul}
 use native.Mathlib.Omega.{arith}
 use borrow.Author.Tests.{leb-true}
 use Rattle.rate.specs.declared.plan.Plan.{Plan}
-use Rattle.rate.specs.Grains.{ticksIn, price, capacity, oneTo, planOk, onClock, lastMoment, WithinLimits, InForce}
+use Rattle.rate.specs.Grains.{ticksIn, price, capacity, oneTo, planOk, onClock, mostLimit, mostPeriod, mostBurst, lastMoment, WithinLimits, InForce}
 use Rattle.rate.specs.Decision.{remaining}
 use Rattle.rate.proofs.Tests.{both}
 
@@ -38,13 +38,13 @@ unfolding onClock
 in-force p at plan moment = record { plan = within-limits p plan; moment = leb-true _ _ moment }
 
 module _ (p : Plan) (w : WithinLimits p) where
-  pub capacity-most : capacity p ≤ 2678400000 * 1000000
+  pub capacity-most : capacity p ≤ mostPeriod * mostBurst
   unfolding capacity
-  capacity-most = mul-le-mul {n₂ = 2678400000} {m₂ = 1000000} (w .period-most) (w .burst-most)
+  capacity-most = mul-le-mul {n₂ = mostPeriod} {m₂ = mostBurst} (w .period-most) (w .burst-most)
 
-  pub ticks-most : (at : ℕ) → at ≤ lastMoment → ticksIn p at ≤ lastMoment * 1000000
+  pub ticks-most : (at : ℕ) → at ≤ lastMoment → ticksIn p at ≤ lastMoment * mostLimit
   unfolding ticksIn
-  ticks-most at h = mul-le-mul {n₂ = lastMoment} {m₂ = 1000000} h (w .limit-most)
+  ticks-most at h = mul-le-mul {n₂ = lastMoment} {m₂ = mostLimit} h (w .limit-most)
 
 pub price-within : (p : Plan) (cost : ℕ) → cost ≤ p .burst → price p cost ≤ capacity p
 unfolding price capacity

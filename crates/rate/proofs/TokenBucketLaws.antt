@@ -63,10 +63,14 @@ owes-nothing-iff : (p : Plan) (at : ℕ) (b : Bucket) → eqb (backlog p at b) 0
 unfolding backlog levelNow
 owes-nothing-iff p at b = by-leb (capacity p) (refilled p at b) full lacking
   where
-    full : leb (capacity p) (refilled p at b) ≡ true → eqb (capacity p - min (capacity p) (refilled p at b)) 0 ≡ leb (capacity p) (refilled p at b)
+    full :
+        leb (capacity p) (refilled p at b) ≡ true →
+        eqb (capacity p - min (capacity p) (refilled p at b)) 0 ≡ leb (capacity p) (refilled p at b)
     full e = let h : capacity p ≤ refilled p at b = leb-true _ _ e in rw (e, eq-eqb (capacity p - min (capacity p) (refilled p at b)) 0 (omega arith))
 
-    lacking : leb (capacity p) (refilled p at b) ≡ false → eqb (capacity p - min (capacity p) (refilled p at b)) 0 ≡ leb (capacity p) (refilled p at b)
+    lacking :
+        leb (capacity p) (refilled p at b) ≡ false →
+        eqb (capacity p - min (capacity p) (refilled p at b)) 0 ≡ leb (capacity p) (refilled p at b)
     lacking e =
         let h : refilled p at b < capacity p = leb-false _ _ e in
         rw (e, ne-eqb (capacity p - min (capacity p) (refilled p at b)) 0 (λ z. omega arith))
@@ -75,13 +79,16 @@ free-iff : (p : Plan) (at : ℕ) (b : Bucket) → free p at b ≡ (sound p at b 
 unfolding free sound
 free-iff p at b = rw owes-nothing-iff (regroup (leb (b .last .0) at) (leb (b .level .0) (capacity p)) (leb (capacity p) (refilled p at b)))
 
-spends : (p : Plan) (at : ℕ) (b : Bucket) (cost : ℕ) → admits p at b cost ≡ true → backlog p at (spend p at b cost) ≡ backlog p at b + price p cost
+spends :
+    (p : Plan) (at : ℕ) (b : Bucket) (cost : ℕ) → admits p at b cost ≡ true →
+    backlog p at (spend p at b cost) ≡ backlog p at b + price p cost
 unfolding admits backlog levelNow refilled spend
 spends p at b cost e =
     let h : price p cost ≤ min (capacity p) (refilled p at b) = leb-true _ _ e in
     omega (arith, ticks-none p at)
 
-spends-sound : (p : Plan) (at : ℕ) (b : Bucket) (cost : ℕ) → admits p at b cost ≡ true → sound p at (spend p at b cost) ≡ true
+spends-sound :
+    (p : Plan) (at : ℕ) (b : Bucket) (cost : ℕ) → admits p at b cost ≡ true → sound p at (spend p at b cost) ≡ true
 unfolding levelNow spend
 spends-sound p at b cost e = fact-sound p at (spend p at b cost) (omega arith)
 

@@ -42,6 +42,8 @@ module _ (p : Plan) (backlog cost : ℕ) (rate : 1 ≤ p .limit) where
       (λ a. least .1 (omega arith)) (λ a. let b = least .0 a in omega arith)
 
 -- the wait is the least: with the record untouched, the same ask k ms later is admitted exactly if the wait is at most k
-pub least-wait : {R : Type 0} {E : Engine R} → Lawful E → (p : Plan) (at : ℕ) (r : R) (cost : ℕ) → 1 ≤ p .limit → cost ≤ p .burst → E .sound p at r ≡ true → (k : ℕ) → E .admits p (at + k) r cost ≡ leb (retryAfter p (E .backlog p at r) cost) k
+pub least-wait :
+    {R : Type 0} {E : Engine R} → Lawful E → (p : Plan) (at : ℕ) (r : R) (cost : ℕ) → 1 ≤ p .limit → cost ≤ p .burst →
+    E .sound p at r ≡ true → (k : ℕ) → E .admits p (at + k) r cost ≡ leb (retryAfter p (E .backlog p at r) cost) k
 least-wait {E = E} L p at r cost rate payable s k =
     L .admits-iff p (at + k) r cost ∙ rw (L .drains p at (at + k) r (omega arith) s, add-sub-cancel-left at k) (drained-admits p (E .backlog p at r) cost rate payable k)

@@ -1,9 +1,12 @@
 -- The life of one record: a list of asks on it, each judged on the record as the one before left it.
 use Prim.Native.Nat.{ℕ, _≤_}
+use mathlib.Core.Path.{_≡_}
 use mathlib.Core.List.{List, [], _∷_}
 use Rattle.rate.specs.declared.plan.Plan.{Plan}
 use Rattle.rate.specs.Decision.{Verdict}
 use Rattle.rate.specs.Engine.{Engine, judge}
+use Rattle.rate.specs.Gcra.{gcra}
+use Rattle.rate.specs.TokenBucket.{tokenBucket}
 
 pub record Ask : Type 0 where
   pub moment : ℕ
@@ -28,3 +31,12 @@ lived E p r (a ∷ rest) = lived E p (judge E p (a .moment) r (a .cost) .after) 
 unfoldable pub verdicts : {R : Type 0} → Engine R → Plan → R → List Ask → List Verdict
 verdicts E p r [] = []
 verdicts E p r (a ∷ rest) = judge E p (a .moment) r (a .cost) .verdict ∷ verdicts E p (judge E p (a .moment) r (a .cost) .after) rest
+
+-- GCRA and the token bucket agree over the life of one record that starts fresh: the same answers, and at any moment from
+-- the newest on the same backlog
+pub record Agreement (p : Plan) (from : ℕ) (asks : List Ask) : Type 0 where
+  pub answers : verdicts gcra p (gcra .fresh p from) asks ≡ verdicts tokenBucket p (tokenBucket .fresh p from) asks
+  pub backlogs :
+      (k : ℕ) → newest from asks ≤ k →
+      gcra .backlog p k (lived gcra p (gcra .fresh p from) asks)
+      ≡ tokenBucket .backlog p k (lived tokenBucket p (tokenBucket .fresh p from) asks)

@@ -18,7 +18,10 @@ price-requires c κs = search needs
 
 add-t8 : tie.Need-add-t8
 unfolding backlog later
-add-t8 c = let a = c .before .before .before .before .before .before .before .args in let f = c .before .before .before .before .before .before .before .pre .force in omega (arith, capacity-most (a .plan) (f .plan), ticks-most (a .plan) (f .plan) (a .now .0) (f .moment))
+add-t8 c =
+    let a = c .before .before .before .before .before .before .before .args in
+    let f = c .before .before .before .before .before .before .before .pre .force in
+    omega (arith, capacity-most (a .plan) (f .plan), ticks-most (a .plan) (f .plan) (a .now .0) (f .moment))
 
 returns : tie.Need-returns
 unfolding spend later
@@ -30,7 +33,10 @@ returns c =
 
 add-t9 : tie.Need-add-t9
 unfolding backlog later
-add-t9 c = let a = c .before .before .before .before .before .before .before .args in let f = c .before .before .before .before .before .before .before .pre .force in omega (arith, capacity-most (a .plan) (f .plan), ticks-most (a .plan) (f .plan) (a .now .0) (f .moment))
+add-t9 c =
+    let a = c .before .before .before .before .before .before .before .args in
+    let f = c .before .before .before .before .before .before .before .pre .force in
+    omega (arith, capacity-most (a .plan) (f .plan), ticks-most (a .plan) (f .plan) (a .now .0) (f .moment))
 
 returns-2 : tie.Need-returns-2
 unfolding spend later

@@ -15,14 +15,18 @@ is-sound-requires c κs = search needs
 
 returns : tie.Need-returns
 unfolding tokenBucket
-returns c = let a = c .before .before .args in rw (token-bucket-lawful .free-iff (a .plan) (a .now .0) (a .bucket), sym (c .before .is-sound .ensures) ∙ not-true _ (c .if1 .taken))
+returns c =
+    let a = c .before .before .args in
+    rw (token-bucket-lawful .free-iff (a .plan) (a .now .0) (a .bucket), sym (c .before .is-sound .ensures) ∙ not-true _ (c .if1 .taken))
 
 backlog-requires : tie.Need-backlog-requires
 backlog-requires c κs = search needs
 
 returns-2 : tie.Need-returns-2
 unfolding tokenBucket
-returns-2 c = let a = c .before .before .before .before .args in rw (token-bucket-lawful .free-iff (a .plan) (a .now .0) (a .bucket), sym (c .before .before .before .is-sound .ensures) ∙ not-false _ (c .before .before .if1 .left)) (ap (λ (x : ℕ). eqb x 0) (c .before .backlog .ensures))
+returns-2 c =
+    let a = c .before .before .before .before .args in
+    rw (token-bucket-lawful .free-iff (a .plan) (a .now .0) (a .bucket), sym (c .before .before .before .is-sound .ensures) ∙ not-false _ (c .before .before .if1 .left)) (ap (λ (x : ℕ). eqb x 0) (c .before .backlog .ensures))
 
 pub is-free-spec : {M : Type 1} → statement M
 is-free-spec = tie.close (tie.spec is-sound-requires returns backlog-requires returns-2)

@@ -14,11 +14,17 @@ capacity-requires c κs = search needs
 
 returns : tie.Need-returns
 unfolding sound
-returns c = let a = c .before .before .before .before .before .before .args in let h : capacity (a .plan) < a .bucket .level .0 = omega arith in rw (lt-leb (a .bucket .level .0) (capacity (a .plan)) h)
+returns c =
+    let a = c .before .before .before .before .before .before .args in
+    let h : capacity (a .plan) < a .bucket .level .0 = omega arith in
+    rw (lt-leb (a .bucket .level .0) (capacity (a .plan)) h)
 
 returns-2 : tie.Need-returns-2
 unfolding sound
-returns-2 c = let a = c .before .before .before .before .before .before .before .before .args in let h : a .bucket .level .0 ≤ capacity (a .plan) = omega arith in rw (le-leb (a .bucket .level .0) (capacity (a .plan)) h)
+returns-2 c =
+    let a = c .before .before .before .before .before .before .before .before .args in
+    let h : a .bucket .level .0 ≤ capacity (a .plan) = omega arith in
+    rw (le-leb (a .bucket .level .0) (capacity (a .plan)) h)
 
 pub is-sound-spec : {M : Type 1} → statement M
 is-sound-spec = tie.close (tie.spec capacity-requires returns returns-2)

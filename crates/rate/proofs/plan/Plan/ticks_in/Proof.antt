@@ -29,14 +29,18 @@ sub-if2 c = search needs
 
 returns-2 : tie.Need-returns-2
 unfolding ticksIn
-returns-2 c = let a = c .before .before .before .before .before .args in omega (arith, product-split (a .span .0) (a .self .limit))
+returns-2 c =
+    let a = c .before .before .before .before .before .args in
+    omega (arith, product-split (a .span .0) (a .self .limit))
 
 add-t7 : tie.Need-add-t7
 add-t7 c = search needs
 
 returns-3 : tie.Need-returns-3
 unfolding ticksIn
-returns-3 c = let a = c .before .before .before .before .before .args in omega (arith, product-split (a .span .0) (a .self .limit))
+returns-3 c =
+    let a = c .before .before .before .before .before .args in
+    omega (arith, product-split (a .span .0) (a .self .limit))
 
 pub ticks-in-spec : {M : Type 1} → statement M
 ticks-in-spec =
