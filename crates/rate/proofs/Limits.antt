@@ -1,6 +1,6 @@
 -- What the tests of the limits say, and how large a number within them can be.
 -- Assumes nothing.
-use mathlib.Core.Path.{_≡_}
+use mathlib.Core.Path.{_≡_, refl}
 use mathlib.Core.Bool.{true}
 use Prim.Native.Nat.{ℕ, _*_, _≤_}
 use native.Mathlib.Nat.{mul-le-mul, mul-le-mul-left, div-le-of-le-mul}
@@ -46,9 +46,14 @@ module _ (p : Plan) (w : WithinLimits p) where
   unfolding ticksIn
   ticks-most at h = mul-le-mul {n₂ = lastMoment} {m₂ = mostLimit} h (w .limit-most)
 
-pub price-within : (p : Plan) (cost : ℕ) → cost ≤ p .burst → price p cost ≤ capacity p
+-- a full bucket is the price of the burst
+pub capacity-is-price : (p : Plan) → capacity p ≡ price p (p .burst)
 unfolding price capacity
-price-within p cost h = mul-le-mul-left (p .period) h
+capacity-is-price p = refl
+
+pub price-within : (p : Plan) (cost : ℕ) → cost ≤ p .burst → price p cost ≤ capacity p
+unfolding price
+price-within p cost h = rw capacity-is-price (mul-le-mul-left (p .period) h)
 
 -- no more units are left than the burst
 pub remaining-most : (p : Plan) (backlog : ℕ) → remaining p backlog ≤ p .burst

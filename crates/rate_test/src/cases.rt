@@ -1,6 +1,8 @@
 // The cases: the numbers of document 01, and each limit at it and one beyond.
 use crate::line;
 use crate::reckon;
+use rate::answer::Cleared;
+use rate::answer::Reason;
 use rate::gcra;
 use rate::plan::Plan;
 use rate::token_bucket;
@@ -68,6 +70,21 @@ pub fn moments() {
     reckon::moment(4_398_046_511_103);
     reckon::moment(4_398_046_511_104);
     reckon::moment(18_446_744_073_709_551_615);
+}
+
+// Each cause of a refusal, with the largest subscriber, and both answers of a clear.
+pub fn answers() {
+    let shop = 4_294_967_295;
+    reckon::refused(0, Reason::BadPlan, shop);
+    reckon::refused(1, Reason::BadTable, shop);
+    reckon::refused(2, Reason::LateMoment, shop);
+    reckon::refused(3, Reason::NoSubscriber, 0);
+    reckon::refused(4, Reason::ZeroCost, shop);
+    reckon::refused(5, Reason::CostAboveBurst, shop);
+    reckon::refused(6, Reason::CorruptRecord, shop);
+    reckon::refused(7, Reason::TableFull, shop);
+    reckon::cleared(0, Cleared::Done);
+    reckon::cleared(1, Cleared::BadTable);
 }
 
 pub fn divisions() {

@@ -1,5 +1,6 @@
 // Lines of tabbed numbers on standard output.
 use rate::answer::Answer;
+use rate::answer::Numbers;
 use rate::answer::Outcome;
 use rate::plan::Plan;
 
@@ -50,6 +51,16 @@ pub fn outcome(o: Outcome) {
     number(n.left);
     number(n.reset);
     number(n.wait);
+}
+
+// The five numbers of an answer, and the line's end.
+pub fn numbers(n: Numbers) {
+    number(n.number);
+    number(n.subscriber);
+    number(n.left);
+    number(n.reset);
+    number(n.wait);
+    end();
 }
 
 pub fn end() {

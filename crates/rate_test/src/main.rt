@@ -7,6 +7,8 @@ mod reckon;
 fn main() {
     line::title(b"the worked example, one record a shop");
     cases::worked();
+    line::title(b"refusals and clears");
+    cases::answers();
     line::title(b"plans");
     cases::plans();
     line::title(b"moments");

@@ -3,6 +3,8 @@ ghost use mathlib.Core.Path.{_≡_};
 ghost use Prim.Native.Nat.{_≤_};
 ghost use Rattle.rate.specs.Grains.{InForce};
 use crate::line;
+use rate::answer::Answer;
+use rate::answer::Cleared;
 use rate::answer::Outcome;
 use rate::answer::Reason;
 use rate::gcra;
@@ -118,6 +120,25 @@ pub fn moment(at: u64) {
     line::number(at);
     line::flag(Millis(at).is_on_clock());
     line::end();
+}
+
+// which reason, counted from 0 in the order of the checks, and subscriber: the five numbers of the refusal
+pub fn refused(place: u64, reason: Reason, subscriber: u32) {
+    let answer = Answer {
+        subscriber,
+        outcome: Outcome::Refused(reason),
+    };
+    line::word(b"refused");
+    line::number(place);
+    line::number(subscriber as u64);
+    line::numbers(answer.to_numbers());
+}
+
+// 0 for a clear that was done, 1 for a table that was refused: the five numbers
+pub fn cleared(place: u64, answer: Cleared) {
+    line::word(b"cleared");
+    line::number(place);
+    line::numbers(answer.to_numbers());
 }
 
 // dividend, divisor: quotient rounded up
