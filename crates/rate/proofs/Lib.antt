@@ -1,5 +1,6 @@
 -- The laws of this crate, lowest first. What stands above the crate cites these and no definition's text.
 pub mod Tests
+pub mod Answers
 pub mod Rounding
 pub mod Limits
 pub mod Products
@@ -9,5 +10,6 @@ pub mod TokenBucketLaws
 pub mod Cases
 pub mod Judging
 pub mod Fresh
+pub mod Look
 pub mod Wait
 pub mod Life

@@ -6,7 +6,7 @@ ghost use Rattle.rate.specs.declared.plan.Plan.{Plan};
 ghost use Rattle.rate.specs.Answer.{verdictOf};
 ghost use Rattle.rate.specs.Decision.{Admitting};
 ghost use Rattle.rate.specs.Engine.{judge, report};
-ghost use Rattle.rate.specs.Gcra.{gcra, fresh, sound, free, backlog, spend};
+ghost use Rattle.rate.specs.Gcra.{gcra, sound, backlog, spend};
 ghost use Rattle.rate.specs.Grains.{InForce};
 use crate::answer::Outcome;
 use crate::answer::Reason;
@@ -23,7 +23,7 @@ pub struct Judgement {
 
 // The record of a subscriber without one. It is the same under every plan and at every moment: nothing is owed.
 pub fn fresh() -> Ticks
-    ensures { λ r. ⌜ ((p : Plan) (at : ℕ) → r ≡ fresh p at) ⌝ }
+    ensures { λ r. ⌜ ((p : Plan) (at : ℕ) → r ≡ gcra .fresh p at) ⌝ }
 {
     Ticks(0)
 }
@@ -50,7 +50,7 @@ pub fn is_sound(plan: Plan, now: Millis, tat: Ticks) -> bool
 
 // Whether the record owes nothing.
 pub fn is_free(plan: Plan, now: Millis, tat: Ticks) -> bool
-    ensures { λ r. ⌜ r ≡ free plan (now .0) tat ⌝ }
+    ensures { λ r. ⌜ r ≡ gcra .free plan (now .0) tat ⌝ }
 {
     let drained = plan.ticks_in(now);
     tat.0 <= drained.0

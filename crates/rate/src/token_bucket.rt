@@ -5,7 +5,7 @@ ghost use Rattle.rate.specs.Answer.{verdictOf};
 ghost use Rattle.rate.specs.Decision.{Admitting};
 ghost use Rattle.rate.specs.Engine.{judge, report};
 ghost use Rattle.rate.specs.Grains.{InForce};
-ghost use Rattle.rate.specs.TokenBucket.{tokenBucket, fresh, sound, free, levelNow, backlog, spend};
+ghost use Rattle.rate.specs.TokenBucket.{tokenBucket, sound, levelNow, backlog, spend};
 use crate::answer::Outcome;
 use crate::answer::Reason;
 use crate::decision;
@@ -26,7 +26,7 @@ pub struct Judgement {
 
 // The record of a subscriber without one: a full bucket.
 pub fn fresh(plan: Plan, now: Millis) -> Bucket
-    ensures { λ r. ⌜ r ≡ fresh plan (now .0) ⌝ }
+    ensures { λ r. ⌜ r ≡ tokenBucket .fresh plan (now .0) ⌝ }
 {
     Bucket {
         level: plan.capacity(),
@@ -75,7 +75,7 @@ pub fn backlog(plan: Plan, now: Millis, bucket: Bucket) -> Ticks
 
 // Whether the record owes nothing. A record that is not sound is not free.
 pub fn is_free(plan: Plan, now: Millis, bucket: Bucket) -> bool
-    ensures { λ r. ⌜ r ≡ free plan (now .0) bucket ⌝ }
+    ensures { λ r. ⌜ r ≡ tokenBucket .free plan (now .0) bucket ⌝ }
 {
     if !is_sound(plan, now, bucket) {
         return false;

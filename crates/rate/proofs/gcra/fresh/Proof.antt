@@ -1,12 +1,12 @@
 -- `rate::gcra::fresh` meets its contract: a TAT of 0.
 -- Assumes nothing.
 use mathlib.Core.Path.{refl}
-use Rattle.rate.specs.Gcra.{fresh}
+use Rattle.rate.specs.Gcra.{gcra, fresh}
 use Rattle.rate.proofs.gcra.fresh.Statement.{statement}
 use Rattle.rate.proofs.gcra.fresh.Tie as tie
 
 returns : tie.Need-returns
-unfolding fresh
+unfolding gcra fresh
 returns c = λ p at. refl
 
 pub fresh-spec : {M : Type 1} → statement M

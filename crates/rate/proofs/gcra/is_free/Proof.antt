@@ -3,7 +3,7 @@
 use borrow.Author.Needs.{needs}
 use native.Mathlib.Omega.{arith}
 use Rattle.rate.specs.Grains.{ticksIn}
-use Rattle.rate.specs.Gcra.{free}
+use Rattle.rate.specs.Gcra.{gcra, free}
 use Rattle.rate.proofs.Tests.{leb-same}
 use Rattle.rate.proofs.gcra.is_free.Statement.{statement}
 use Rattle.rate.proofs.gcra.is_free.Tie as tie
@@ -12,7 +12,7 @@ ticks-in-requires : tie.Need-ticks-in-requires
 ticks-in-requires c κs = search needs
 
 returns : tie.Need-returns
-unfolding free
+unfolding gcra free
 returns c =
     let a = c .before .before .before .args in
     leb-same (a .tat .0) (c .before .before .ticks-in .result .0) (a .tat .0) (ticksIn (a .plan) (a .now .0)) (λ h. omega arith) (λ h. omega arith)

@@ -1,0 +1,115 @@
+-- The numbers of the answers: of each cause of a refusal, none of which is 0, of an answer, and of a clear.
+-- Assumes nothing.
+use mathlib.Core.Path.{_≡_, refl}
+use mathlib.Core.Bool.{false}
+use lib.Dec.{eqb}
+use Prim.Native.Nat.{ℕ, _+_}
+use Rattle.rate.specs.declared.answer.Cleared.the-variants.{Done, BadTable as Unfit}
+use Rattle.rate.specs.declared.answer.Outcome.{Outcome}
+use Rattle.rate.specs.declared.answer.Outcome.the-variants.{Refused}
+use Rattle.rate.specs.declared.answer.Reason.{Reason}
+use Rattle.rate.specs.declared.answer.Reason.the-variants.{BadPlan, BadTable, LateMoment, NoSubscriber, ZeroCost, CostAboveBurst, CorruptRecord, TableFull}
+use Rattle.rate.specs.declared.plan.Plan.{Plan}
+use Rattle.rate.specs.Grains.{price}
+use Rattle.rate.specs.Decision.{Verdict, bare, reported, admitted, throttled, retryAfter}
+use Rattle.rate.specs.Answer.{reasonNumber, verdictOf, answered, numbersOf, clearedNumbers}
+
+pub bad-plan : reasonNumber BadPlan ≡ 1
+unfolding reasonNumber
+bad-plan = refl
+
+pub bad-table : reasonNumber BadTable ≡ 2
+unfolding reasonNumber
+bad-table = refl
+
+pub late-moment : reasonNumber LateMoment ≡ 3
+unfolding reasonNumber
+late-moment = refl
+
+pub no-subscriber : reasonNumber NoSubscriber ≡ 4
+unfolding reasonNumber
+no-subscriber = refl
+
+pub zero-cost : reasonNumber ZeroCost ≡ 5
+unfolding reasonNumber
+zero-cost = refl
+
+pub cost-above-burst : reasonNumber CostAboveBurst ≡ 6
+unfolding reasonNumber
+cost-above-burst = refl
+
+pub corrupt-record : reasonNumber CorruptRecord ≡ 7
+unfolding reasonNumber
+corrupt-record = refl
+
+pub table-full : reasonNumber TableFull ≡ 9
+unfolding reasonNumber
+table-full = refl
+
+-- a refusal is not number 0
+pub refuses : (reason : Reason) → eqb (reasonNumber reason) 0 ≡ false
+unfolding reasonNumber
+refuses BadPlan = refl
+refuses BadTable = refl
+refuses LateMoment = refl
+refuses NoSubscriber = refl
+refuses ZeroCost = refl
+refuses CostAboveBurst = refl
+refuses CorruptRecord = refl
+refuses TableFull = refl
+
+-- a refusal is its number with zeros
+pub refused : (reason : Reason) → verdictOf (Refused reason) ≡ bare (reasonNumber reason)
+unfolding verdictOf
+refused reason = refl
+
+-- the number of each verdict
+pub bare-number : (n : ℕ) → bare n .number ≡ n
+unfolding bare
+bare-number n = refl
+
+pub reported-number : (p : Plan) (at backlog : ℕ) → reported p at backlog .number ≡ 0
+unfolding reported
+reported-number p at backlog = refl
+
+pub admitted-number : (p : Plan) (at backlog cost : ℕ) → admitted p at backlog cost .number ≡ 0
+unfolding admitted
+admitted-number p at backlog cost = reported-number p at (backlog + price p cost)
+
+pub throttled-number : (p : Plan) (at backlog cost : ℕ) → throttled p at backlog cost .number ≡ 8
+unfolding throttled
+throttled-number p at backlog cost = refl
+
+pub throttled-wait : (p : Plan) (at backlog cost : ℕ) → throttled p at backlog cost .wait ≡ retryAfter p backlog cost
+unfolding throttled
+throttled-wait p at backlog cost = refl
+
+-- an answer has the numbers of its verdict
+pub answered-number : (subscriber : ℕ) (v : Verdict) → answered subscriber v .number ≡ v .number
+unfolding answered
+answered-number subscriber v = refl
+
+pub answered-left : (subscriber : ℕ) (v : Verdict) → answered subscriber v .left ≡ v .left
+unfolding answered
+answered-left subscriber v = refl
+
+pub answered-reset : (subscriber : ℕ) (v : Verdict) → answered subscriber v .reset ≡ v .reset
+unfolding answered
+answered-reset subscriber v = refl
+
+pub answered-wait : (subscriber : ℕ) (v : Verdict) → answered subscriber v .wait ≡ v .wait
+unfolding answered
+answered-wait subscriber v = refl
+
+-- an answer is its outcome's verdict, for the subscriber that it names
+pub numbers : (subscriber : ℕ) (outcome : Outcome) → numbersOf (record { subscriber = subscriber; outcome = outcome }) ≡ answered subscriber (verdictOf outcome)
+unfolding numbersOf
+numbers subscriber outcome = refl
+
+pub cleared-done : clearedNumbers Done ≡ answered 0 (bare 0)
+unfolding clearedNumbers
+cleared-done = refl
+
+pub cleared-unfit : clearedNumbers Unfit ≡ answered 0 (bare 2)
+unfolding clearedNumbers
+cleared-unfit = refl
