@@ -1,0 +1,99 @@
+-- What each call comes to in each case, for any rule and any columns. A function's proof cites the case that it returns in.
+-- Assumes nothing.
+use mathlib.Core.Path.{_≡_, refl, ap, _∙_}
+use mathlib.Core.Bool.{true, false}
+use Prim.Native.Nat.{ℕ}
+use lib.Dec.{eqb}
+use Rattle.rate.specs.Answer.{answered}
+use Rattle.rate.specs.Decision.{bare}
+use Rattle.rate.specs.Engine.{Judged}
+use Rattle.table.specs.declared.search.Place.{Place}
+use Rattle.table.specs.declared.search.Place.the-variants.{Nowhere, At}
+use Rattle.table.specs.Request.{Query, Request}
+use Rattle.table.specs.Checks.{slotsOk, queryCheck, requestCheck}
+use Rattle.table.specs.Rule.{Rule}
+use Rattle.table.specs.Slots.{Columns, own, lowestFree}
+use Rattle.table.specs.Calls.{Step, Slot, none, at, Ruling, keep, write, ruled, newcomer, slotFrom, slotFor, judgeIn, judgeCall, heldAt, held, peekVerdict, clear}
+use Rattle.table.proofs.Checks.{guard-0, guard-not-0}
+
+-- only an admission writes
+module _ {R : Type 0} (i : ℕ) (j : Judged R) where
+  pub ruled-writes : eqb (j .verdict .number) 0 ≡ true → ruled i j ≡ write (j .verdict) i (j .after)
+  unfolding ruled
+  ruled-writes e = rw e
+
+  pub ruled-keeps : eqb (j .verdict .number) 0 ≡ false → ruled i j ≡ keep (j .verdict)
+  unfolding ruled
+  ruled-keeps e = rw e
+
+module _ {C R : Type 0} (U : Rule R) (K : Columns C R) (c : C) where
+  module _ (q : Query) where
+    -- the slot of an ask
+    pub slot-own : {i : ℕ} → own K q c ≡ At i → slotFor U K q c ≡ at i (K .row c i)
+    unfolding slotFor slotFrom
+    slot-own e = ap (λ (p : Place). slotFrom U K q c p) e
+
+    slot-newcomer : {p : Place} → own K q c ≡ Nowhere → lowestFree U K q c ≡ p → slotFor U K q c ≡ newcomer U q p
+    unfolding slotFor slotFrom
+    slot-newcomer e f = ap (λ (p : Place). slotFrom U K q c p) e ∙ ap (λ (p : Place). newcomer U q p) f
+
+    pub slot-new :
+        {i : ℕ} → own K q c ≡ Nowhere → lowestFree U K q c ≡ At i →
+        slotFor U K q c ≡ at i (U .fresh (q .plan) (q .moment))
+    unfolding newcomer
+    slot-new e f = slot-newcomer e f
+
+    pub slot-none : own K q c ≡ Nowhere → lowestFree U K q c ≡ Nowhere → slotFor U K q c ≡ none
+    unfolding newcomer
+    slot-none e f = slot-newcomer e f
+
+    -- the record of a look
+    pub held-own : {i : ℕ} → own K q c ≡ At i → held U K q c ≡ K .row c i
+    unfolding held heldAt
+    held-own e = ap (λ (p : Place). heldAt U K q c p) e
+
+    pub held-fresh : own K q c ≡ Nowhere → held U K q c ≡ U .fresh (q .plan) (q .moment)
+    unfolding held heldAt
+    held-fresh e = ap (λ (p : Place). heldAt U K q c p) e
+
+    pub peek-refused : eqb (queryCheck q (K .slots c)) 0 ≡ false → peekVerdict U K q c ≡ bare (queryCheck q (K .slots c))
+    unfolding peekVerdict
+    peek-refused h = guard-not-0 bare (queryCheck q (K .slots c)) (U .report (q .plan) (q .moment) (held U K q c)) h
+
+    pub peek-reported :
+        queryCheck q (K .slots c) ≡ 0 → peekVerdict U K q c ≡ U .report (q .plan) (q .moment) (held U K q c)
+    unfolding peekVerdict
+    peek-reported e = guard-0 bare (queryCheck q (K .slots c)) (U .report (q .plan) (q .moment) (held U K q c)) e
+
+  module _ (r : Request) where
+    -- an ask judged
+    pub judge-refused :
+        eqb (requestCheck r (K .slots c)) 0 ≡ false → judgeCall U K r c ≡ keep (bare (requestCheck r (K .slots c)))
+    unfolding judgeCall
+    judge-refused h = guard-not-0 (λ n. keep (bare n)) (requestCheck r (K .slots c)) (judgeIn U r (slotFor U K (r .query) c)) h
+
+    judge-passed : {s : Slot R} → requestCheck r (K .slots c) ≡ 0 → slotFor U K (r .query) c ≡ s → judgeCall U K r c ≡ judgeIn U r s
+    unfolding judgeCall
+    judge-passed e f =
+        guard-0 (λ n. keep (bare n)) (requestCheck r (K .slots c)) (judgeIn U r (slotFor U K (r .query) c)) e
+        ∙ ap (λ (s : Slot R). judgeIn U r s) f
+
+    pub judge-full : requestCheck r (K .slots c) ≡ 0 → slotFor U K (r .query) c ≡ none → judgeCall U K r c ≡ keep (bare 9)
+    unfolding judgeIn
+    judge-full e f = judge-passed e f
+
+    pub judge-at :
+        {i : ℕ} {h : R} → requestCheck r (K .slots c) ≡ 0 → slotFor U K (r .query) c ≡ at i h →
+        judgeCall U K r c ≡ ruled i (U .judge (r .query .plan) (r .query .moment) h (r .cost))
+    unfolding judgeIn
+    judge-at e f = judge-passed e f
+
+-- a clear
+module _ {C R : Type 0} (K : Columns C R) (c : C) where
+  pub clear-done : slotsOk (K .slots c) ≡ true → clear K c ≡ record { answer = answered 0 (bare 0); after = K .zeros c }
+  unfolding clear
+  clear-done e = rw e
+
+  pub clear-unfit : slotsOk (K .slots c) ≡ false → clear K c ≡ record { answer = answered 0 (bare 2); after = c }
+  unfolding clear
+  clear-unfit e = rw e

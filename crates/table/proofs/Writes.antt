@@ -1,0 +1,70 @@
+-- What an acquire writes: a number other than 0 leaves the columns as they were; number 0 overwrites one slot whole, the
+-- subscriber's own or else the lowest free one, and leaves every other slot as it was.
+-- Assumes nothing.
+use mathlib.Core.Path.{_≡_, refl, sym, ap, subst, _∙_}
+use mathlib.Core.Bool.{true, false, false≢true}
+use Prim.Native.Nat.{ℕ, _≤_, _<_}
+use native.Mathlib.Omega.{arith}
+use lib.Dec.{eqb}
+use lib.ListN.{getD, set}
+use lib.Seq.{getD-set-same, getD-set-other}
+use borrow.Author.Tests.{eq-eqb}
+use mathlib.Core.List.{List}
+use Rattle.rate.specs.Decision.{Verdict}
+use Rattle.rate.proofs.Answers.{answered-number}
+use Rattle.table.specs.Request.{Request}
+use Rattle.table.specs.Rule.{Rule}
+use Rattle.table.specs.Slots.{Columns}
+use Rattle.table.specs.Calls.{Step, Ruling, keep, write, judgeCall, acquire}
+use Rattle.table.proofs.Outcomes.{acquire-keeps, acquire-writes}
+use Rattle.table.proofs.Placing.{Taken, taken-within, Effect, effect}
+use Rattle.table.proofs.Stored.{Stored}
+
+module _ {C R : Type 0} (U : Rule R) (K : Columns C R) (r : Request) (c : C) where
+  -- what an admission has written
+  pub record Admission : Type 0 where
+    pub place : ℕ
+    pub held : R
+    pub takes : Taken U K (r .query) c place
+    pub after : acquire U K r c .after ≡ K .put c place (r .query .subscriber) held
+
+  denied : (x : Ruling R) → judgeCall U K r c ≡ x → Effect U K r c x → eqb (acquire U K r c .answer .number) 0 ≡ false → acquire U K r c .after ≡ c
+  denied (keep v) e h n = ap (λ (s : Step C). s .after) (acquire-keeps U K r c e)
+  denied (write v i held) e h n =
+      absurd (false≢true (sym n ∙ eq-eqb _ _ (ap (λ (s : Step C). s .answer .number) (acquire-writes U K r c e) ∙ answered-number (r .query .subscriber) v ∙ h .number)))
+
+  pub denied-changes-nothing : eqb (acquire U K r c .answer .number) 0 ≡ false → acquire U K r c .after ≡ c
+  denied-changes-nothing = denied (judgeCall U K r c) refl (effect U K r c)
+
+  admission : (x : Ruling R) → judgeCall U K r c ≡ x → Effect U K r c x → acquire U K r c .answer .number ≡ 0 → Admission
+  admission (keep v) e h n =
+      absurd (false≢true (sym h ∙ eq-eqb _ _ (sym (answered-number (r .query .subscriber) v) ∙ sym (ap (λ (s : Step C). s .answer .number) (acquire-keeps U K r c e)) ∙ n)))
+  admission (write v i held) e h n =
+      record { place = i; held = held; takes = h .place; after = ap (λ (s : Step C). s .after) (acquire-writes U K r c e) }
+
+  pub admission-writes-one : acquire U K r c .answer .number ≡ 0 → Admission
+  admission-writes-one = admission (judgeCall U K r c) refl (effect U K r c)
+
+  module _ (S : Stored K) (a : Admission) where
+    -- the slot that was taken holds the subscriber and the new record
+    pub taken-slot :
+        (getD (K .ids (acquire U K r c .after)) (a .place) 0 ≡ r .query .subscriber)
+        × (K .row (acquire U K r c .after) (a .place) ≡ a .held)
+    taken-slot =
+        let within : a .place < K .slots c = taken-within U K (r .query) c (a .takes) in (
+          ap (λ (d : C). getD (K .ids d) (a .place) 0) (a .after)
+              ∙ ap (λ (l : List ℕ). getD l (a .place) 0) (S .ids-put c (a .place) (r .query .subscriber) (a .held))
+              ∙ getD-set-same (K .ids c) (a .place) (r .query .subscriber) 0 (omega (arith, S .ids-length c (omega arith))),
+          ap (λ (d : C). K .row d (a .place)) (a .after) ∙ S .row-same c (a .place) (r .query .subscriber) (a .held) within,
+        )
+
+    -- every other slot is as it was
+    pub other-slots :
+        (j : ℕ) → (j ≡ a .place → ⊥) →
+        (getD (K .ids (acquire U K r c .after)) j 0 ≡ getD (K .ids c) j 0) × (K .row (acquire U K r c .after) j ≡ K .row c j)
+    other-slots j h = (
+      ap (λ (d : C). getD (K .ids d) j 0) (a .after)
+          ∙ ap (λ (l : List ℕ). getD l j 0) (S .ids-put c (a .place) (r .query .subscriber) (a .held))
+          ∙ getD-set-other (K .ids c) (a .place) j (r .query .subscriber) 0 h,
+      ap (λ (d : C). K .row d j) (a .after) ∙ S .row-other c (a .place) j (r .query .subscriber) (a .held) h,
+    )

@@ -1,0 +1,89 @@
+-- The calls: for any request and any columns the whole answer, and the whole content of the columns afterwards. They are
+-- generic over the rule and over the columns; a run of calls goes by these functions.
+use Prim.Native.Nat.{ℕ}
+use mathlib.Core.Bool.{cond}
+use lib.Dec.{eqb}
+use Rattle.rate.specs.declared.answer.Numbers.{Numbers}
+use Rattle.rate.specs.Answer.{answered}
+use Rattle.rate.specs.Decision.{Verdict, bare}
+use Rattle.rate.specs.Engine.{Judged}
+use Rattle.table.specs.declared.search.Place.{Place}
+use Rattle.table.specs.declared.search.Place.the-variants.{Nowhere, At}
+use Rattle.table.specs.Request.{Query, Request}
+use Rattle.table.specs.Checks.{slotsOk, queryCheck, requestCheck, guard}
+use Rattle.table.specs.Rule.{Rule}
+use Rattle.table.specs.Slots.{Columns, own, lowestFree}
+
+-- document 01's five numbers, and the columns afterwards
+pub record Step (C : Type 0) : Type 0 where
+  pub answer : Numbers
+  pub after : C
+
+-- the slot that an ask is judged in: its place and its record, if there is one
+pub data Slot (R : Type 0) : Type 0 where
+  none : Slot R
+  at : ℕ → R → Slot R
+
+-- an ask as judged: nothing is to be written, or a record into a slot
+pub data Ruling (R : Type 0) : Type 0 where
+  keep : Verdict → Ruling R
+  write : Verdict → ℕ → R → Ruling R
+
+-- only an admission writes
+unfoldable pub ruled : {R : Type 0} → ℕ → Judged R → Ruling R
+ruled i j = cond (eqb (j .verdict .number) 0) (write (j .verdict) i (j .after)) (keep (j .verdict))
+
+-- a newcomer starts afresh in a free slot
+unfoldable pub newcomer : {R : Type 0} → Rule R → Query → Place → Slot R
+newcomer U q Nowhere = none
+newcomer U q (At i) = at i (U .fresh (q .plan) (q .moment))
+
+-- without a slot of its own and a free one the answer is 9
+unfoldable pub judgeIn : {R : Type 0} → Rule R → Request → Slot R → Ruling R
+judgeIn U r none = keep (bare 9)
+judgeIn U r (at i held) = ruled i (U .judge (r .query .plan) (r .query .moment) held (r .cost))
+
+-- what a ruling answers and leaves
+unfoldable pub commit : {C R : Type 0} → Columns C R → ℕ → C → Ruling R → Step C
+commit K subscriber c (keep v) = record { answer = answered subscriber v; after = c }
+commit K subscriber c (write v i held) =
+    record { answer = answered subscriber v; after = K .put c i subscriber held }
+
+module _ {C R : Type 0} (U : Rule R) (K : Columns C R) where
+  -- the own slot, or else a newcomer's
+  unfoldable pub slotFrom : Query → C → Place → Slot R
+  slotFrom q c Nowhere = newcomer U q (lowestFree U K q c)
+  slotFrom q c (At i) = at i (K .row c i)
+
+  unfoldable pub slotFor : Query → C → Slot R
+  slotFor q c = slotFrom q c (own K q c)
+
+  -- an ask judged: checks 1 to 6, then on the record in its slot
+  unfoldable pub judgeCall : Request → C → Ruling R
+  judgeCall r c = guard (λ n. keep (bare n)) (requestCheck r (K .slots c)) (judgeIn U r (slotFor (r .query) c))
+
+  -- ask
+  unfoldable pub acquire : Request → C → Step C
+  acquire r c = commit K (r .query .subscriber) c (judgeCall r c)
+
+  -- the own record; without a slot the bucket is full
+  unfoldable pub heldAt : Query → C → Place → R
+  heldAt q c Nowhere = U .fresh (q .plan) (q .moment)
+  heldAt q c (At i) = K .row c i
+
+  unfoldable pub held : Query → C → R
+  held q c = heldAt q c (own K q c)
+
+  -- look: checks 1 to 4, then the own record; nothing is written
+  unfoldable pub peekVerdict : Query → C → Verdict
+  peekVerdict q c = guard bare (queryCheck q (K .slots c)) (U .report (q .plan) (q .moment) (held q c))
+
+  unfoldable pub peek : Query → C → Step C
+  peek q c = record { answer = answered (q .subscriber) (peekVerdict q c); after = c }
+
+-- clear: all zeros and 0, or 2 and nothing touched
+unfoldable pub clear : {C R : Type 0} → Columns C R → C → Step C
+clear K c =
+    cond (slotsOk (K .slots c))
+    (record { answer = answered 0 (bare 0); after = K .zeros c })
+    (record { answer = answered 0 (bare 2); after = c })

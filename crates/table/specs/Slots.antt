@@ -1,0 +1,53 @@
+-- Document 01, 'Seats': a table is a set of columns of equal length; each place of it is a slot (document 01's seat).
+use Prim.Native.Nat.{ℕ, zero, suc}
+use mathlib.Core.Bool.{Bool, cond, _||_}
+use mathlib.Core.List.{List}
+use lib.Dec.{eqb}
+use lib.ListN.{getD}
+use Rattle.table.specs.declared.search.Place.{Place}
+use Rattle.table.specs.declared.search.Place.the-variants.{Nowhere, At}
+use Rattle.table.specs.Request.{Query}
+use Rattle.table.specs.Rule.{Rule}
+
+-- the length that two columns have in common; 0, which no table has, if they are unequal
+unfoldable pub common : ℕ → ℕ → ℕ
+common a b = cond (eqb a b) a 0
+
+-- columns C that hold a subscriber's number and a record R in each slot
+pub record Columns (C R : Type 0) : Type 0 where
+  -- how many slots; 0 if the columns are unequal
+  pub slots : C → ℕ
+  -- the subscribers' numbers, 0 in an empty slot
+  pub ids : C → List ℕ
+  -- the record in a slot
+  pub row : C → ℕ → R
+  -- a slot overwritten whole, with a number and a record
+  pub put : C → ℕ → ℕ → R → C
+  -- every column all zeros
+  pub zeros : C → C
+
+-- the lowest of the places from one on, so many, that passes a test
+unfoldable pub seekFrom : (ℕ → Bool) → ℕ → ℕ → Place
+seekFrom test zero i = Nowhere
+seekFrom test (suc more) i = cond (test i) (At i) (seekFrom test more (suc i))
+
+-- the lowest place below n that passes a test
+unfoldable pub seek : (ℕ → Bool) → ℕ → Place
+seek test n = seekFrom test n 0
+
+-- the slot carries the number
+unfoldable pub carries : List ℕ → ℕ → ℕ → Bool
+carries ids subscriber i = eqb (getD ids i 0) subscriber
+
+-- a subscriber's slot is the lowest that carries its number
+unfoldable pub own : {C R : Type 0} → Columns C R → Query → C → Place
+own K q c = seek (carries (K .ids c) (q .subscriber)) (K .slots c)
+
+module _ {C R : Type 0} (U : Rule R) (K : Columns C R) where
+  -- a slot is free if it is empty or owes nothing
+  unfoldable pub vacant : Query → C → ℕ → Bool
+  vacant q c i = carries (K .ids c) 0 i || U .free (q .plan) (q .moment) (K .row c i)
+
+  -- a subscriber without a slot gets the lowest free one
+  unfoldable pub lowestFree : Query → C → Place
+  lowestFree q c = seek (vacant q c) (K .slots c)
