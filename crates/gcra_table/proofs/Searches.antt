@@ -1,0 +1,27 @@
+-- The searches of equal columns go over all of them.
+-- Assumes nothing.
+use mathlib.Core.Path.{_≡_, sym, ap, _∙_}
+use mathlib.Core.List.{List}
+use Prim.Native.Nat.{ℕ}
+use lib.ListN.{length}
+use Rattle.rate.specs.Gcra.{gcra}
+use Rattle.table.specs.declared.search.Place.{Place}
+use Rattle.table.specs.Request.{Query}
+use Rattle.table.specs.Rule.{ruleOf}
+use Rattle.table.specs.Slots.{seek, carries, own, vacant, lowestFree}
+use Rattle.table.proofs.Slots.{common-same}
+use Rattle.gcra_table.specs.Table.{tableOf, columns}
+
+module _ (ids tats : List ℕ) (equal : length ids ≡ length tats) (q : Query) {p p′ : Place} where
+  pub own-all : p ≡ seek (carries ids (q .subscriber)) (length ids) → p ≡ p′ → own columns q (tableOf ids tats) ≡ p′
+  unfolding own columns
+  own-all says e =
+      ap (λ (n : ℕ). seek (carries ids (q .subscriber)) n) (common-same (length ids) (length tats) equal) ∙ sym says ∙ e
+
+  pub free-all :
+      p ≡ seek (vacant (ruleOf gcra) columns q (tableOf ids tats)) (length ids) → p ≡ p′ →
+      lowestFree (ruleOf gcra) columns q (tableOf ids tats) ≡ p′
+  unfolding lowestFree columns
+  free-all says e =
+      ap (λ (n : ℕ). seek (vacant (ruleOf gcra) columns q (tableOf ids tats)) n) (common-same (length ids) (length tats) equal)
+      ∙ sym says ∙ e

@@ -1,0 +1,66 @@
+-- `gcra_table::clear` meets its contract: both columns are zeros, or neither is touched.
+-- Assumes nothing.
+use borrow.Author.Needs.{needs}
+use Rattle.table.proofs.check.is_slot_count.Reads as is-slot-count-reads
+use Rattle.table.proofs.columns.common.Reads as common-reads
+use Rattle.table.proofs.columns.zero_u32.Reads as zero-u32-reads
+use Rattle.table.proofs.columns.zero_u64.Reads as zero-u64-reads
+use mathlib.Core.Path.{sym, ap, ap₂, _∙_}
+use mathlib.Core.List.{List}
+use Prim.Native.Nat.{ℕ}
+use borrow.Author.Tests.{not-true, not-false}
+use denote.Ref.{now}
+use Rattle.rate.proofs.Answers.{cleared-done, cleared-unfit}
+use Rattle.table.specs.Checks.{slotsOk}
+use Rattle.table.specs.Calls.{Step}
+use Rattle.table.proofs.Cases.{clear-done, clear-unfit}
+use Rattle.gcra_table.specs.Table.{Table, tableOf, columns}
+use Rattle.gcra_table.proofs.clear.Statement.{statement}
+use Rattle.gcra_table.proofs.clear.Tie as tie
+
+common-requires : tie.Need-common-requires
+common-requires c κs = search needs
+
+is-slot-count-requires : tie.Need-is-slot-count-requires
+is-slot-count-requires c κs = search needs
+
+returns : tie.Need-returns
+unfolding columns
+returns c =
+    let S = c .before .before .before .before .before .args in
+    let done = clear-unfit columns (tableOf (now (S .ids)) (now (S .tats))) (ap (λ (n : ℕ). slotsOk n) (sym (c .before .before .common .ensures)) ∙ sym (c .before .is-slot-count .ensures) ∙ not-true _ (c .if1 .taken)) in
+    (cleared-unfit ∙ sym (ap (λ (s : Step Table). s .answer) done), sym (ap (λ (s : Step Table). s .after) done))
+
+zero-u32-requires : tie.Need-zero-u32-requires
+zero-u32-requires c κs = search needs
+
+zero-u64-requires : tie.Need-zero-u64-requires
+zero-u64-requires c κs = search needs
+
+same-length : tie.Need-same-length
+same-length c = search needs
+
+same-length-2 : tie.Need-same-length-2
+same-length-2 c = search needs
+
+returns-2 : tie.Need-returns-2
+unfolding columns
+returns-2 c =
+    let S = c .before .before .before .before .before .before .before .before .before .before .before .before .before .args in
+    let done = clear-done columns (tableOf (now (S .ids)) (now (S .tats))) (ap (λ (n : ℕ). slotsOk n) (sym (c .before .before .before .before .before .before .before .before .before .before .common .ensures)) ∙ sym (c .before .before .before .before .before .before .before .before .before .is-slot-count .ensures) ∙ not-false _ (c .before .before .before .before .before .before .before .before .if1 .left)) in (
+      cleared-done ∙ sym (ap (λ (s : Step Table). s .answer) done),
+      ap₂ (λ (ids tats : List ℕ). tableOf ids tats) (c .before .before .before .before .before .before .zero-u32 .ensures) (c .before .before .zero-u64 .ensures) ∙ sym (ap (λ (s : Step Table). s .after) done),
+    )
+
+pub clear-spec : {M : Type 1} → statement M
+clear-spec =
+    tie.close
+    (tie.spec
+    common-requires
+    is-slot-count-requires
+    returns
+    zero-u32-requires
+    zero-u64-requires
+    same-length
+    same-length-2
+    returns-2)

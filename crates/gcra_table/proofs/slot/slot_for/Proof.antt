@@ -1,0 +1,88 @@
+-- `gcra_table::slot::slot_for` meets its contract: the own slot, or a newcomer's, or none.
+-- Assumes nothing.
+use borrow.Author.Needs.{needs}
+use Rattle.gcra_table.proofs.slot.lowest_free.Reads as lowest-free-reads
+use Rattle.rate.proofs.gcra.fresh.Reads as fresh-reads
+use Rattle.table.proofs.search.find.Reads as find-reads
+use mathlib.Core.Path.{sym, ap, _∙_}
+use native.Mathlib.Omega.{arith}
+use denote.Ref.{now}
+use Rattle.rate.specs.declared.units.Ticks.{Ticks}
+use Rattle.rate.specs.Gcra.{gcra}
+use Rattle.table.specs.Request.{queryOf}
+use Rattle.table.specs.Rule.{ruleOf}
+use Rattle.table.specs.Slots.{carries}
+use Rattle.table.specs.Calls.{at}
+use Rattle.table.proofs.Cases.{slot-own, slot-new, slot-none}
+use Rattle.table.proofs.Seek.{found-within}
+use Rattle.gcra_table.specs.Table.{tableOf, columns, slotOf}
+use Rattle.gcra_table.proofs.Searches.{own-all}
+use Rattle.gcra_table.proofs.slot.slot_for.Statement.{statement}
+use Rattle.gcra_table.proofs.slot.slot_for.Tie as tie
+
+find-requires : tie.Need-find-requires
+find-requires c κs = search needs
+
+enum-known-own : tie.Need-enum-known-own
+enum-known-own c = search needs
+
+mul-t9 : tie.Need-mul-t9
+mul-t9 c =
+    let S = c .before .before .before .before .before .before .args in
+    omega (arith, c .before .before .before .before .before .before .pre, found-within (carries (now (S .ids)) (S .subscriber)) (c .before .before .before .find .ensures) (c .before .own .given .1))
+
+shared-slice-read-t11 : tie.Need-shared-slice-read-t11
+shared-slice-read-t11 c =
+    let S = c .before .before .before .before .before .before .before .args in
+    omega (arith, c .before .before .before .before .before .before .before .pre, found-within (carries (now (S .ids)) (S .subscriber)) (c .before .before .before .before .find .ensures) (c .before .before .own .given .1))
+
+returns : tie.Need-returns
+unfolding slotOf columns
+returns c =
+    let S = c .before .before .before .before .before .before .before .args in
+    sym (slot-own (ruleOf gcra) columns (tableOf (now (S .ids)) (now (S .tats))) (queryOf (S .plan) (S .moment .0) (S .subscriber)) (own-all (now (S .ids)) (now (S .tats)) (c .before .before .before .before .before .before .before .pre) (queryOf (S .plan) (S .moment .0) (S .subscriber)) (c .before .before .before .before .find .ensures) (c .before .before .own .given .1)))
+
+enum-told : tie.Need-enum-told
+enum-told c = search needs
+
+lowest-free-requires : tie.Need-lowest-free-requires
+lowest-free-requires c κs = c .before .before .before .before .before .pre
+
+enum-known-free : tie.Need-enum-known-free
+enum-known-free c = search needs
+
+enum-told-2 : tie.Need-enum-told-2
+enum-told-2 c = search needs
+
+returns-2 : tie.Need-returns-2
+unfolding slotOf
+returns-2 c =
+    let S = c .before .before .before .before .before .before .before .before .args in
+    sym (slot-none (ruleOf gcra) columns (tableOf (now (S .ids)) (now (S .tats))) (queryOf (S .plan) (S .moment .0) (S .subscriber)) (own-all (now (S .ids)) (now (S .tats)) (c .before .before .before .before .before .before .before .before .pre) (queryOf (S .plan) (S .moment .0) (S .subscriber)) (c .before .before .before .before .before .find .ensures) (c .before .before .before .enum-told .given .1)) (sym (c .before .before .lowest-free .ensures) ∙ c .enum-told2 .given .1))
+
+fresh-requires : tie.Need-fresh-requires
+fresh-requires c κs = search needs
+
+returns-3 : tie.Need-returns-3
+unfolding slotOf ruleOf
+returns-3 c =
+    let S = c .before .before .before .before .before .before .before .before .before .before .args in
+    ap (λ (t : Ticks). at (c .before .before .free .given .0 .0) t) (c .fresh .ensures _ _)
+    ∙ sym (slot-new (ruleOf gcra) columns (tableOf (now (S .ids)) (now (S .tats))) (queryOf (S .plan) (S .moment .0) (S .subscriber)) (own-all (now (S .ids)) (now (S .tats)) (c .before .before .before .before .before .before .before .before .before .before .pre) (queryOf (S .plan) (S .moment .0) (S .subscriber)) (c .before .before .before .before .before .before .before .find .ensures) (c .before .before .before .before .before .enum-told .given .1)) (sym (c .before .before .before .before .lowest-free .ensures) ∙ c .before .before .free .given .1))
+
+pub slot-for-spec : {M : Type 1} → statement M
+slot-for-spec =
+    tie.close
+    (tie.spec
+    find-requires
+    enum-known-own
+    mul-t9
+    shared-slice-read-t11
+    returns
+    enum-told
+    lowest-free-requires
+    enum-known-free
+    enum-told-2
+    returns-2
+    fresh-requires
+    returns-3)
