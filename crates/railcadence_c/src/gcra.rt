@@ -1,0 +1,66 @@
+// The GCRA engine's calls for C. Any values may be passed.
+ghost use mathlib.Core.Path.{_≡_};
+ghost use Rattle.table.specs.Request.{queryOf, requestOf};
+ghost use Rattle.gcra_table.specs.Table.{tableOf, acquire, peek, clear};
+ghost use Rattle.railcadence_c.specs.Five.{five, planOf};
+use crate::five;
+use rate::plan::Plan;
+use rate::units::Millis;
+
+// ask
+#[no_mangle]
+pub extern "C" fn railcadence_gcra_acquire(
+    limit: u32,
+    period: u32,
+    burst: u32,
+    ids: &mut [u32],
+    tats: &mut [u64],
+    moment: u64,
+    subscriber: u32,
+    cost: u32,
+    out: &mut [u64; 5],
+)
+    ensures { λ _. ⌜ now (out .exit) ≡ five (acquire (requestOf (planOf limit period burst) moment subscriber cost) (tableOf (now (ids .entry)) (now (tats .entry))) .answer) ⌝ }
+    ensures { λ _. ⌜ tableOf (now (ids .exit)) (now (tats .exit)) ≡ acquire (requestOf (planOf limit period burst) moment subscriber cost) (tableOf (now (ids .entry)) (now (tats .entry))) .after ⌝ }
+{
+    let plan = Plan {
+        limit,
+        period,
+        burst,
+    };
+    let answer = gcra_table::acquire(plan, ids, tats, Millis(moment), subscriber, cost);
+    *out = five::five(answer.to_numbers());
+}
+
+// look
+#[no_mangle]
+pub extern "C" fn railcadence_gcra_peek(
+    limit: u32,
+    period: u32,
+    burst: u32,
+    ids: &[u32],
+    tats: &[u64],
+    moment: u64,
+    subscriber: u32,
+    out: &mut [u64; 5],
+)
+    ensures { λ _. ⌜ now (out .exit) ≡ five (peek (queryOf (planOf limit period burst) moment subscriber) (tableOf (now (ids .entry)) (now (tats .entry))) .answer) ⌝ }
+{
+    let plan = Plan {
+        limit,
+        period,
+        burst,
+    };
+    let answer = gcra_table::peek(plan, ids, tats, Millis(moment), subscriber);
+    *out = five::five(answer.to_numbers());
+}
+
+// clear
+#[no_mangle]
+pub extern "C" fn railcadence_gcra_clear(ids: &mut [u32], tats: &mut [u64], out: &mut [u64; 5])
+    ensures { λ _. ⌜ now (out .exit) ≡ five (clear (tableOf (now (ids .entry)) (now (tats .entry))) .answer) ⌝ }
+    ensures { λ _. ⌜ tableOf (now (ids .exit)) (now (tats .exit)) ≡ clear (tableOf (now (ids .entry)) (now (tats .entry))) .after ⌝ }
+{
+    let cleared = gcra_table::clear(ids, tats);
+    *out = five::five(cleared.to_numbers());
+}
