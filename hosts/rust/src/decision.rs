@@ -1,7 +1,8 @@
-//! Document 01, 'The decision' and 'When the gate says no', on one record. Checks 2, 4 and 9, which need seats, are not
-//! here.
+//! Document 01, 'The decision' and 'When the gate says no', on one record. Checks 2, 4 and 9, which need seats, are the
+//! table's.
 
-use crate::plan::{div_up, Plan, LAST_MOMENT};
+use crate::checks;
+use crate::plan::{div_up, Plan};
 
 /// Number, left, reset and wait.
 #[derive(Clone, Copy, Debug, PartialEq, Eq)]
@@ -12,7 +13,7 @@ pub struct Verdict {
     pub wait: u128,
 }
 
-fn refusal(number: u128) -> Verdict {
+pub fn refusal(number: u128) -> Verdict {
     Verdict {
         number,
         left: 0,
@@ -23,6 +24,8 @@ fn refusal(number: u128) -> Verdict {
 
 /// What an engine stores for one subscriber.
 pub trait Record: Copy {
+    /// The record that a subscriber without a seat is judged by: the bucket is full.
+    fn fresh(plan: &Plan, moment: u128) -> Self;
     fn impossible(self, plan: &Plan, moment: u128) -> bool;
     fn is_free(self, plan: &Plan, moment: u128) -> bool;
     /// The debt if nothing is admitted.
@@ -36,6 +39,10 @@ pub trait Record: Copy {
 pub struct Paced(pub u128);
 
 impl Record for Paced {
+    fn fresh(_: &Plan, _: u128) -> Paced {
+        Paced(0)
+    }
+
     fn impossible(self, plan: &Plan, moment: u128) -> bool {
         self.0 > moment * plan.limit + plan.full()
     }
@@ -73,6 +80,13 @@ impl Bucket {
 }
 
 impl Record for Bucket {
+    fn fresh(plan: &Plan, moment: u128) -> Bucket {
+        Bucket {
+            level: plan.full(),
+            last: moment,
+        }
+    }
+
     fn impossible(self, plan: &Plan, moment: u128) -> bool {
         self.level > plan.full() || self.last > moment
     }
@@ -98,63 +112,61 @@ impl Record for Bucket {
     }
 }
 
-fn left(plan: &Plan, debt: u128) -> u128 {
-    (plan.full() - debt) / plan.period
-}
-
-fn reset(plan: &Plan, moment: u128, debt: u128) -> u128 {
-    moment + debt / plan.limit
-}
-
-/// A look: checks 1, 3 and 7, else left and reset under number 0.
-pub fn look<R: Record>(plan: &Plan, moment: u128, record: R) -> Verdict {
-    if !plan.within_limits() {
-        return refusal(1);
-    }
-    if moment > LAST_MOMENT {
-        return refusal(3);
-    }
-    if record.impossible(plan, moment) {
-        return refusal(7);
-    }
-    let debt = record.debt(plan, moment);
+/// Number 0 with left and reset from the debt after the call. The book's debt can exceed a full bucket where the clock
+/// falls; document 01 says nothing of that case, and left is then 0.
+pub fn settled(plan: &Plan, moment: u128, debt: u128) -> Verdict {
     Verdict {
         number: 0,
-        left: left(plan, debt),
-        reset: reset(plan, moment, debt),
+        left: plan.full().saturating_sub(debt) / plan.period,
+        reset: moment + debt / plan.limit,
         wait: 0,
     }
 }
 
-/// An ask: checks 1, 3, 5, 6, 7 and 8, and the record afterwards.
-pub fn ask<R: Record>(plan: &Plan, moment: u128, record: R, cost: u128) -> (Verdict, R) {
-    if !plan.within_limits() {
-        return (refusal(1), record);
+/// Number 8 with left and reset from the debt, and the wait for the cost.
+pub fn waiting(plan: &Plan, moment: u128, debt: u128, cost: u128) -> Verdict {
+    Verdict {
+        number: 8,
+        wait: div_up(debt + plan.period * cost - plan.full(), plan.limit),
+        ..settled(plan, moment, debt)
     }
-    if moment > LAST_MOMENT {
-        return (refusal(3), record);
+}
+
+/// What a look says once checks 1 to 4 are passed.
+pub fn report<R: Record>(plan: &Plan, moment: u128, record: R) -> Verdict {
+    if record.impossible(plan, moment) {
+        return refusal(7);
     }
-    if cost == 0 {
-        return (refusal(5), record);
-    }
-    if cost > plan.burst {
-        return (refusal(6), record);
-    }
+    settled(plan, moment, record.debt(plan, moment))
+}
+
+/// What an ask says once checks 1 to 6 are passed, and the record afterwards.
+pub fn judge<R: Record>(plan: &Plan, moment: u128, record: R, cost: u128) -> (Verdict, R) {
     if record.impossible(plan, moment) {
         return (refusal(7), record);
     }
     match record.spend(plan, moment, cost) {
-        Some(next) => (look(plan, moment, next), next),
+        Some(next) => (settled(plan, moment, next.debt(plan, moment)), next),
         None => {
             let debt = record.debt(plan, moment);
-            let verdict = Verdict {
-                number: 8,
-                left: left(plan, debt),
-                reset: reset(plan, moment, debt),
-                wait: div_up(debt + plan.period * cost - plan.full(), plan.limit),
-            };
-            (verdict, record)
+            (waiting(plan, moment, debt, cost), record)
         }
+    }
+}
+
+/// A look at one record: checks 1, 3 and 7, else left and reset under number 0.
+pub fn look<R: Record>(plan: &Plan, moment: u128, record: R) -> Verdict {
+    match checks::of_look(plan, true, moment, 1) {
+        Some(number) => refusal(number),
+        None => report(plan, moment, record),
+    }
+}
+
+/// An ask on one record: checks 1, 3, 5, 6, 7 and 8, and the record afterwards.
+pub fn ask<R: Record>(plan: &Plan, moment: u128, record: R, cost: u128) -> (Verdict, R) {
+    match checks::of_ask(plan, true, moment, 1, cost) {
+        Some(number) => (refusal(number), record),
+        None => judge(plan, moment, record, cost),
     }
 }
 

@@ -34,9 +34,7 @@ impl Plan {
 pub fn div_up(a: u128, d: u128) -> u128 {
     if d == 0 {
         0
-    } else if a % d == 0 {
-        a / d
     } else {
-        a / d + 1
+        a.div_ceil(d)
     }
 }
