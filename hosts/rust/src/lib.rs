@@ -3,4 +3,7 @@
 
 pub mod checks;
 pub mod decision;
+#[cfg(test)]
+mod example;
 pub mod plan;
+pub mod table;

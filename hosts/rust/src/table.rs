@@ -1,0 +1,293 @@
+//! Document 01, 'Seats': ask (`acquire`), look (`peek`) and clear over a table of slots. The columns are vectors of any
+//! lengths, as a host could lend them.
+
+use crate::checks::{self, MOST_SLOTS};
+use crate::decision::{judge, refusal, report, Bucket, Paced, Record, Verdict};
+use crate::plan::Plan;
+use std::marker::PhantomData;
+
+/// Number, subscriber, left, reset and wait.
+pub type Answer = [u128; 5];
+
+pub fn answer(subscriber: u32, verdict: Verdict) -> Answer {
+    let v = verdict;
+    [v.number, subscriber as u128, v.left, v.reset, v.wait]
+}
+
+/// A record that lies in columns, one number in each.
+pub trait Stored: Record {
+    const COLUMNS: &'static [&'static str];
+    fn load(columns: &[Vec<u64>], slot: usize) -> Self;
+    fn store(self, columns: &mut [Vec<u64>], slot: usize);
+}
+
+/// A number on its way to a column. Within the limits of a plan and the clock every number fits.
+fn word(number: u128) -> u64 {
+    u64::try_from(number).expect("a stored number of 64 bits")
+}
+
+impl Stored for Paced {
+    const COLUMNS: &'static [&'static str] = &["tat"];
+
+    fn load(columns: &[Vec<u64>], slot: usize) -> Paced {
+        Paced(columns[0][slot] as u128)
+    }
+
+    fn store(self, columns: &mut [Vec<u64>], slot: usize) {
+        columns[0][slot] = word(self.0);
+    }
+}
+
+impl Stored for Bucket {
+    const COLUMNS: &'static [&'static str] = &["level", "last"];
+
+    fn load(columns: &[Vec<u64>], slot: usize) -> Bucket {
+        Bucket {
+            level: columns[0][slot] as u128,
+            last: columns[1][slot] as u128,
+        }
+    }
+
+    fn store(self, columns: &mut [Vec<u64>], slot: usize) {
+        columns[0][slot] = word(self.level);
+        columns[1][slot] = word(self.last);
+    }
+}
+
+/// The ids, and the columns of the record in the order of `Stored::COLUMNS`.
+#[derive(Clone, Debug, PartialEq, Eq)]
+pub struct Table<R> {
+    pub ids: Vec<u32>,
+    pub columns: Vec<Vec<u64>>,
+    kind: PhantomData<R>,
+}
+
+impl<R: Stored> Table<R> {
+    pub fn new(ids: Vec<u32>, columns: Vec<Vec<u64>>) -> Table<R> {
+        assert_eq!(columns.len(), R::COLUMNS.len(), "the number of columns");
+        Table {
+            ids,
+            columns,
+            kind: PhantomData,
+        }
+    }
+
+    /// A table as a clear leaves it.
+    pub fn cleared(slots: usize) -> Table<R> {
+        Table::new(vec![0; slots], vec![vec![0; slots]; R::COLUMNS.len()])
+    }
+
+    pub fn acquire(&mut self, plan: &Plan, moment: u64, subscriber: u32, cost: u32) -> Answer {
+        let (moment, cost) = (moment as u128, cost as u128);
+        let stopped = checks::of_ask(plan, self.usable(), moment, subscriber as u128, cost);
+        let verdict = match stopped {
+            Some(number) => refusal(number),
+            None => self.decide(plan, moment, subscriber, cost),
+        };
+        answer(subscriber, verdict)
+    }
+
+    pub fn peek(&self, plan: &Plan, moment: u64, subscriber: u32) -> Answer {
+        let moment = moment as u128;
+        let verdict = match checks::of_look(plan, self.usable(), moment, subscriber as u128) {
+            Some(number) => refusal(number),
+            None => report(
+                plan,
+                moment,
+                self.record(plan, moment, self.own(subscriber)),
+            ),
+        };
+        answer(subscriber, verdict)
+    }
+
+    /// Makes every column all zeros and answers 0, or answers 2 and touches nothing; it names no subscriber.
+    pub fn clear(&mut self) -> Answer {
+        if !self.usable() {
+            return answer(0, refusal(2));
+        }
+        self.ids.fill(0);
+        for column in &mut self.columns {
+            column.fill(0);
+        }
+        [0; 5]
+    }
+
+    /// An ask that passed checks 1 to 6: only an admission writes, and only in its own slot.
+    fn decide(&mut self, plan: &Plan, moment: u128, subscriber: u32, cost: u128) -> Verdict {
+        let own = self.own(subscriber);
+        let Some(slot) = own.or_else(|| self.lowest_free(plan, moment)) else {
+            return refusal(9);
+        };
+        let (verdict, next) = judge(plan, moment, self.record(plan, moment, own), cost);
+        if verdict.number == 0 {
+            self.ids[slot] = subscriber;
+            next.store(&mut self.columns, slot);
+        }
+        verdict
+    }
+
+    /// Columns of one length, which is within the limits of a table.
+    fn usable(&self) -> bool {
+        let slots = self.ids.len();
+        (1..=MOST_SLOTS).contains(&slots) && self.columns.iter().all(|c| c.len() == slots)
+    }
+
+    /// The lowest slot that carries the subscriber.
+    fn own(&self, subscriber: u32) -> Option<usize> {
+        self.ids.iter().position(|&id| id == subscriber)
+    }
+
+    fn lowest_free(&self, plan: &Plan, moment: u128) -> Option<usize> {
+        let free = |slot| R::load(&self.columns, slot).is_free(plan, moment);
+        (0..self.ids.len()).find(|&slot| self.ids[slot] == 0 || free(slot))
+    }
+
+    fn record(&self, plan: &Plan, moment: u128, own: Option<usize>) -> R {
+        match own {
+            Some(slot) => R::load(&self.columns, slot),
+            None => R::fresh(plan, moment),
+        }
+    }
+}
+
+#[cfg(test)]
+mod tests {
+    use super::*;
+    use crate::example::{plan, LINES};
+
+    /// Plays document 01's lines on one slot; `after` has the slot (id and record) after each admission.
+    fn example<R: Stored>(after: &[(usize, &[u64])]) {
+        let mut table = Table::<R>::cleared(1);
+        let mut row = (0, vec![0; R::COLUMNS.len()]);
+        for (line, &(moment, subscriber, cost, expected)) in LINES.iter().enumerate() {
+            assert_eq!(table.acquire(&plan(), moment, subscriber, cost), expected);
+            if let Some((_, record)) = after.iter().find(|(admitted, _)| *admitted == line + 1) {
+                row = (subscriber, record.to_vec());
+            }
+            assert_eq!(table.ids, [row.0], "after line {}", line + 1);
+            assert_eq!(table.columns.concat(), row.1, "after line {}", line + 1);
+        }
+    }
+
+    /// Lines 1, 2, 5 and 8 are admitted. A denial that wrote the refilled level (error 4) would show after line 4.
+    #[test]
+    fn document_01_example() {
+        example::<Paced>(&[(1, &[4000]), (2, &[5000]), (5, &[6000]), (8, &[8000])]);
+        example::<Bucket>(&[
+            (1, &[1000, 1000]),
+            (2, &[0, 1000]),
+            (5, &[2, 1334]),
+            (8, &[0, 2000]),
+        ]);
+    }
+
+    fn number<R: Stored>(
+        slots: usize,
+        plan: Plan,
+        moment: u64,
+        subscriber: u32,
+        cost: u32,
+    ) -> u128 {
+        Table::<R>::cleared(slots).acquire(&plan, moment, subscriber, cost)[0]
+    }
+
+    fn further<R: Stored>() {
+        assert_eq!(number::<R>(1, Plan::new(1_000_000, 1000, 2), 0, 7, 1), 0);
+        assert_eq!(number::<R>(1, Plan::new(1_000_001, 1000, 2), 0, 7, 1), 1);
+        assert_eq!(number::<R>(1, Plan::new(3, 1000, 0), 0, 7, 1), 1);
+        assert_eq!(number::<R>(1, plan(), 4_398_046_511_103, 7, 1), 0);
+        assert_eq!(number::<R>(1, plan(), 4_398_046_511_104, 7, 1), 3);
+        assert_eq!(number::<R>(4096, plan(), 0, 7, 1), 0);
+        assert_eq!(number::<R>(4097, plan(), 0, 7, 1), 2);
+        assert_eq!(number::<R>(0, plan(), 0, 7, 1), 2);
+        assert_eq!(number::<R>(1, plan(), 0, 0, 0), 4);
+        let whole_burst = Table::<R>::cleared(1).acquire(&plan(), 1000, 7, 2);
+        assert_eq!(whole_burst, [0, 7, 0, 1666, 0]);
+        let unknown = Table::<R>::cleared(1).peek(&plan(), 1000, 7);
+        assert_eq!(unknown, [0, 7, 2, 1000, 0]);
+    }
+
+    #[test]
+    fn document_01_further() {
+        further::<Paced>();
+        further::<Bucket>();
+    }
+
+    fn steady<R: Stored>() -> usize {
+        let (plan, mut table) = (Plan::new(10, 1000, 10), Table::<R>::cleared(1));
+        let answers = (0..=3000).map(|moment| table.acquire(&plan, moment, 7, 1));
+        answers.filter(|answer| answer[0] == 0).count()
+    }
+
+    /// Error 2: the tolerance of a whole burst tested before the cost would count 41.
+    #[test]
+    fn document_001_counts_40() {
+        assert_eq!(steady::<Paced>(), 40);
+        assert_eq!(steady::<Bucket>(), 40);
+    }
+
+    /// Error 1, the interval taken as 333 ms, would admit a cost of 1 every 333 ms for ever. By the rule the debt is k
+    /// grains before ask k (1000 a unit, 999 drained between two), and more than 1000 is too much.
+    fn every_333_ms<R: Stored>() {
+        let mut table = Table::<R>::cleared(1);
+        for k in 0..=1000 {
+            assert_eq!(table.acquire(&plan(), 333 * k, 7, 1)[0], 0, "ask {k}");
+        }
+        let denied = table.acquire(&plan(), 333 * 1001, 7, 1);
+        assert_eq!(denied, [8, 7, 0, 333 * 1001 + 333, 1]);
+    }
+
+    #[test]
+    fn the_interval_is_not_rounded() {
+        every_333_ms::<Paced>();
+        every_333_ms::<Bucket>();
+    }
+
+    /// Error 5, and the bounds of number 7: at moment 1000, m is 3000 and a full bucket 2000.
+    #[test]
+    fn an_impossible_record_is_no_wait() {
+        for (tat, asked, seen) in [
+            (5000, [8, 7, 0, 1666, 334], [0, 7, 0, 1666, 0]),
+            (5001, [7, 7, 0, 0, 0], [7, 7, 0, 0, 0]),
+            (u64::MAX, [7, 7, 0, 0, 0], [7, 7, 0, 0, 0]),
+        ] {
+            let before = Table::<Paced>::new(vec![7], vec![vec![tat]]);
+            let mut table = before.clone();
+            assert_eq!(table.peek(&plan(), 1000, 7), seen);
+            assert_eq!(table.acquire(&plan(), 1000, 7, 1), asked);
+            assert_eq!(table, before);
+        }
+        for (level, last) in [(2001, 1000), (2000, 1001)] {
+            let mut table = Table::<Bucket>::new(vec![7], vec![vec![level], vec![last]]);
+            assert_eq!(table.acquire(&plan(), 1000, 7, 1), [7, 7, 0, 0, 0]);
+        }
+    }
+
+    /// Two slots carry 7 and the lower one is its own, though slot 0 is free; 8 gets the lowest free slot, which is the
+    /// empty one whatever its TAT; and 9 (error 6) the one with a TAT of exactly m.
+    #[test]
+    fn slots_are_taken_from_the_lowest() {
+        let tats = vec![u64::MAX, 3001, 3000, 3000];
+        let mut table = Table::<Paced>::new(vec![0, 7, 7, 5], vec![tats]);
+        assert_eq!(table.acquire(&plan(), 1000, 7, 1), [0, 7, 0, 1333, 0]);
+        assert_eq!(table.columns[0], [u64::MAX, 4001, 3000, 3000]);
+        assert_eq!(table.acquire(&plan(), 1000, 8, 1), [0, 8, 1, 1333, 0]);
+        assert_eq!(table.ids, [8, 7, 7, 5]);
+        assert_eq!(table.acquire(&plan(), 1000, 9, 2), [0, 9, 0, 1666, 0]);
+        assert_eq!(table.ids, [8, 7, 9, 5]);
+        assert_eq!(table.columns[0], [4000, 4001, 5000, 3000]);
+    }
+
+    #[test]
+    fn a_clear_zeroes_all_or_touches_nothing() {
+        let mut table = Table::<Bucket>::new(vec![7, 8], vec![vec![1, 2], vec![3, 4]]);
+        assert_eq!(table.clear(), [0; 5]);
+        assert_eq!(table, Table::cleared(2));
+        let unequal = Table::<Bucket>::new(vec![7, 8], vec![vec![1, 2], vec![3]]);
+        let mut table = unequal.clone();
+        assert_eq!(table.clear(), [2, 0, 0, 0, 0]);
+        assert_eq!(table.acquire(&plan(), 1000, 7, 1), [2, 7, 0, 0, 0]);
+        assert_eq!(table.peek(&plan(), 1000, 7), [2, 7, 0, 0, 0]);
+        assert_eq!(table, unequal);
+    }
+}
