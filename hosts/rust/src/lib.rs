@@ -1,6 +1,7 @@
 //! A second implementation of document 01, written from the document alone and sharing nothing with the proved code:
 //! naive, in 128 bits, so that no sum or product of 64-bit inputs can overflow. The tests compare the proved code with it.
 
+pub mod book;
 pub mod checks;
 pub mod decision;
 #[cfg(test)]

@@ -1,0 +1,150 @@
+//! Document 01, 'The book': the answers from the lists of admitted calls alone. It is fed the plan, the number of slots
+//! and the calls, and nothing that an engine answers or stores.
+
+use crate::checks::{self, MOST_SLOTS};
+use crate::decision::{refusal, settled, waiting, Verdict};
+use crate::plan::Plan;
+use crate::table::{answer, Answer};
+use std::collections::BTreeMap;
+
+struct Admitted {
+    moment: i128,
+    cost: i128,
+}
+
+pub struct Book {
+    plan: Plan,
+    slots: usize,
+    lists: BTreeMap<u32, Vec<Admitted>>,
+}
+
+impl Book {
+    /// It starts empty.
+    pub fn new(plan: Plan, slots: usize) -> Book {
+        Book {
+            plan,
+            slots,
+            lists: BTreeMap::new(),
+        }
+    }
+
+    pub fn acquire(&mut self, moment: u64, subscriber: u32, cost: u32) -> Answer {
+        let (s, units) = (moment as u128, cost as u128);
+        let stopped = checks::of_ask(&self.plan, self.usable(), s, subscriber as u128, units);
+        let verdict = match stopped {
+            Some(number) => refusal(number),
+            None => self.decide(s, subscriber, units),
+        };
+        answer(subscriber, verdict)
+    }
+
+    pub fn peek(&self, moment: u64, subscriber: u32) -> Answer {
+        let s = moment as u128;
+        let stopped = checks::of_look(&self.plan, self.usable(), s, subscriber as u128);
+        let verdict = match stopped {
+            Some(number) => refusal(number),
+            None => settled(&self.plan, s, self.debt(subscriber, s)),
+        };
+        answer(subscriber, verdict)
+    }
+
+    pub fn clear(&mut self) -> Answer {
+        self.lists.clear();
+        [0; 5]
+    }
+
+    /// An ask that passed checks 1 to 6. The admitted one is added at the end of its subscriber's list.
+    fn decide(&mut self, s: u128, subscriber: u32, cost: u128) -> Verdict {
+        let others = self.lists.keys().filter(|&&other| other != subscriber);
+        let owing = others.filter(|&&other| self.debt(other, s) > 0).count();
+        if owing == self.slots {
+            return refusal(9);
+        }
+        let debt = self.debt(subscriber, s);
+        let after = debt + self.plan.period * cost;
+        if after > self.plan.full() {
+            return waiting(&self.plan, s, debt, cost);
+        }
+        self.lists.entry(subscriber).or_default().push(Admitted {
+            moment: s as i128,
+            cost: cost as i128,
+        });
+        settled(&self.plan, s, after)
+    }
+
+    /// The largest, over every call i in the list, of P × (costs from call i to the end) − N × (s − moment of i), or 0.
+    fn debt(&self, subscriber: u32, s: u128) -> u128 {
+        let (n, p, s) = (self.plan.limit as i128, self.plan.period as i128, s as i128);
+        let (mut costs, mut largest) = (0, 0);
+        for call in self.lists.get(&subscriber).into_iter().flatten().rev() {
+            costs += call.cost;
+            largest = largest.max(p * costs - n * (s - call.moment));
+        }
+        largest as u128
+    }
+
+    fn usable(&self) -> bool {
+        (1..=MOST_SLOTS).contains(&self.slots)
+    }
+}
+
+#[cfg(test)]
+mod tests {
+    use super::*;
+    use crate::example::{plan, LINES};
+
+    /// The example but its last line, where the moment falls.
+    #[test]
+    fn document_01_example() {
+        let mut book = Book::new(plan(), 1);
+        for (moment, subscriber, cost, expected) in &LINES[..9] {
+            assert_eq!(book.acquire(*moment, *subscriber, *cost), *expected);
+        }
+        assert_eq!(book.peek(2000, 8), [0, 8, 0, 2666, 0]);
+        assert_eq!(book.clear(), [0; 5]);
+        assert_eq!(book.acquire(0, 7, 2), [0, 7, 0, 666, 0]);
+    }
+
+    fn number(slots: usize, plan: Plan, moment: u64, subscriber: u32, cost: u32) -> u128 {
+        Book::new(plan, slots).acquire(moment, subscriber, cost)[0]
+    }
+
+    #[test]
+    fn document_01_further() {
+        assert_eq!(number(1, Plan::new(1_000_000, 1000, 2), 0, 7, 1), 0);
+        assert_eq!(number(1, Plan::new(1_000_001, 1000, 2), 0, 7, 1), 1);
+        assert_eq!(number(1, Plan::new(3, 1000, 0), 0, 7, 1), 1);
+        assert_eq!(number(1, plan(), 4_398_046_511_103, 7, 1), 0);
+        assert_eq!(number(1, plan(), 4_398_046_511_104, 7, 1), 3);
+        assert_eq!(number(4097, plan(), 0, 7, 1), 2);
+        assert_eq!(number(1, plan(), 0, 0, 0), 4);
+        assert_eq!(Book::new(plan(), 1).acquire(0, 7, 2), [0, 7, 0, 666, 0]);
+        assert_eq!(Book::new(plan(), 1).peek(1000, 7), [0, 7, 2, 1000, 0]);
+    }
+
+    #[test]
+    fn document_001_counts_40() {
+        let mut book = Book::new(Plan::new(10, 1000, 10), 1);
+        let answers = (0..=3000).map(|moment| book.acquire(moment, 7, 1));
+        assert_eq!(answers.filter(|answer| answer[0] == 0).count(), 40);
+    }
+
+    /// Error 1: the interval taken as 333 ms would admit ask 1001 too (the table's test says why).
+    #[test]
+    fn the_interval_is_not_rounded() {
+        let mut book = Book::new(plan(), 1);
+        for k in 0..=1000 {
+            assert_eq!(book.acquire(333 * k, 7, 1)[0], 0, "ask {k}");
+        }
+        assert_eq!(book.acquire(333 * 1001, 7, 1)[0], 8);
+    }
+
+    /// A long rest leaves no credit: a term that fell below 0 is not carried into the debt of later calls.
+    #[test]
+    fn a_rest_fills_no_further_than_the_burst() {
+        let mut book = Book::new(plan(), 1);
+        assert_eq!(book.acquire(0, 7, 2)[0], 0);
+        assert_eq!(book.acquire(1_000_000, 7, 2), [0, 7, 0, 1_000_666, 0]);
+        assert_eq!(book.acquire(1_000_000, 7, 1)[0], 8);
+    }
+}
