@@ -1,0 +1,60 @@
+//! A call with its arguments, and the plan it is made under.
+
+use model::plan::Plan;
+use std::fmt;
+
+/// The numbers of a plan as the C interface takes them.
+#[derive(Clone, Copy, Debug)]
+pub struct Terms {
+    pub limit: u32,
+    pub period: u32,
+    pub burst: u32,
+}
+
+impl Terms {
+    pub fn plan(&self) -> Plan {
+        Plan::new(self.limit, self.period, self.burst)
+    }
+}
+
+#[derive(Clone, Copy, Debug)]
+pub enum Call {
+    Acquire {
+        moment: u64,
+        subscriber: u32,
+        cost: u32,
+    },
+    Peek {
+        moment: u64,
+        subscriber: u32,
+    },
+    Clear,
+}
+
+impl Call {
+    pub fn subscriber(&self) -> u32 {
+        match *self {
+            Call::Acquire { subscriber, .. } | Call::Peek { subscriber, .. } => subscriber,
+            Call::Clear => 0,
+        }
+    }
+}
+
+impl fmt::Display for Call {
+    fn fmt(&self, f: &mut fmt::Formatter) -> fmt::Result {
+        match *self {
+            Call::Acquire {
+                moment,
+                subscriber,
+                cost,
+            } => write!(
+                f,
+                "acquire moment {moment} subscriber {subscriber} cost {cost}"
+            ),
+            Call::Peek { moment, subscriber } => {
+                write!(f, "peek moment {moment} subscriber {subscriber}")
+            }
+            Call::Clear => write!(f, "clear"),
+        }
+    }
+}

@@ -1,0 +1,196 @@
+//! Arguments and tables at random, chosen so that every outcome is frequent.
+
+use crate::call::Terms;
+use crate::engine::Engine;
+use crate::rng::Rng;
+use model::plan::{Plan, LAST_MOMENT};
+use model::table::Table;
+
+const MOST: [u32; 3] = [1_000_000, 2_678_400_000, 1_000_000];
+pub const LAST: u64 = LAST_MOMENT as u64;
+
+/// A plan within its limits, at one of them now and then.
+pub fn good_terms(rng: &mut Rng) -> Terms {
+    let [limit, period, burst] = MOST.map(|most| match rng.below(8) {
+        0 => 1,
+        1 => most,
+        2 => most - 1,
+        3 | 4 => rng.from(1, 10) as u32,
+        _ => rng.of_any_size(most as u64) as u32,
+    });
+    Terms {
+        limit,
+        period,
+        burst,
+    }
+}
+
+/// A plan of which one number is outside its limits, just so or far.
+pub fn bad_terms(rng: &mut Rng) -> Terms {
+    let mut terms = good_terms(rng);
+    let which = rng.below(3) as usize;
+    let wrong = rng.pick(&[0, MOST[which] + 1, u32::MAX]);
+    *[&mut terms.limit, &mut terms.period, &mut terms.burst][which] = wrong;
+    terms
+}
+
+pub fn moment(rng: &mut Rng) -> u64 {
+    match rng.below(12) {
+        0 => 0,
+        1 => 1,
+        2 => LAST,
+        3 => LAST - rng.below(1000),
+        4 => beyond_the_clock(rng),
+        5..=7 => rng.below(10_000),
+        _ => rng.of_any_size(LAST),
+    }
+}
+
+pub fn beyond_the_clock(rng: &mut Rng) -> u64 {
+    let anywhere = LAST + rng.of_any_size(LAST);
+    rng.pick(&[LAST + 1, u64::MAX, anywhere])
+}
+
+pub fn subscriber(rng: &mut Rng) -> u32 {
+    match rng.below(16) {
+        0 => 0,
+        1..=3 => 1,
+        4 => u32::MAX,
+        5..=8 => rng.next() as u32,
+        _ => rng.from(1, 4) as u32,
+    }
+}
+
+pub fn cost(rng: &mut Rng, burst: u32) -> u32 {
+    match rng.below(16) {
+        0 => 0,
+        1 => burst.saturating_add(1),
+        2 => u32::MAX,
+        3..=6 => 1,
+        7..=9 => burst,
+        _ => rng.of_any_size(burst.max(1) as u64) as u32,
+    }
+}
+
+/// What a table at random is chosen for.
+pub struct Around {
+    pub plan: Plan,
+    pub moment: u128,
+    pub subscriber: u32,
+    pub cost: u128,
+}
+
+#[derive(Clone, Copy, PartialEq, Eq)]
+enum Mood {
+    /// Any ids, any records.
+    Any,
+    /// Nobody is the subscriber, and everybody owes.
+    Full,
+    /// The same, but for one slot that is free.
+    OneFree,
+    /// The subscriber has a slot or two.
+    Known,
+}
+
+/// A table that is damaged in one way or another: ids twice, records of empty slots, impossible records, and columns
+/// of unequal or forbidden lengths.
+pub fn table<E: Engine>(rng: &mut Rng, around: &Around) -> Table<E> {
+    let slots = length(rng);
+    let moods = [
+        Mood::Any,
+        Mood::Full,
+        Mood::OneFree,
+        Mood::Known,
+        Mood::Known,
+    ];
+    let mood = rng.pick(&moods);
+    let mut table = Table::<E>::cleared(slots);
+    for slot in 0..slots {
+        table.ids[slot] = id(rng, around.subscriber, mood);
+        let owing = matches!(mood, Mood::Full | Mood::OneFree);
+        record::<E>(rng, around, owing).store(&mut table.columns, slot);
+    }
+    if slots > 0 {
+        mend(rng, around, mood, &mut table);
+    }
+    if rng.once_in(12) {
+        cut(rng, &mut table);
+    }
+    table
+}
+
+fn length(rng: &mut Rng) -> usize {
+    match rng.below(128) {
+        0 => rng.pick(&[4095, 4096, 4097]),
+        1..=3 => rng.from(9, 100) as usize,
+        4..=11 => 0,
+        12..=40 => 1,
+        41..=70 => 2,
+        _ => rng.from(3, 8) as usize,
+    }
+}
+
+fn id(rng: &mut Rng, subscriber: u32, mood: Mood) -> u32 {
+    match mood {
+        Mood::Any | Mood::Known => rng.pick(&[0, 1, 2, 3, u32::MAX, subscriber.wrapping_add(1)]),
+        // anybody else
+        Mood::Full | Mood::OneFree => {
+            let other = rng.from(1, 5) as u32;
+            if other == subscriber {
+                6
+            } else {
+                other
+            }
+        }
+    }
+}
+
+/// A record near a bound; if it has to owe, one that does if a few draws find one.
+fn record<E: Engine>(rng: &mut Rng, around: &Around, owing: bool) -> E {
+    let mut record = E::near_a_bound(rng, &around.plan, around.moment, around.cost);
+    for _ in 0..20 {
+        if !owing || !record.is_free(&around.plan, around.moment) {
+            break;
+        }
+        record = E::near_a_bound(rng, &around.plan, around.moment, around.cost);
+    }
+    record
+}
+
+/// Gives the table what its mood promises.
+fn mend<E: Engine>(rng: &mut Rng, around: &Around, mood: Mood, table: &mut Table<E>) {
+    let slots = table.ids.len() as u64;
+    let anywhere = rng.below(slots);
+    let slot = rng.pick(&[anywhere, slots - 1]) as usize;
+    match mood {
+        Mood::Any | Mood::Full => (),
+        Mood::OneFree if rng.once_in(2) => table.ids[slot] = 0,
+        Mood::OneFree => {
+            for _ in 0..20 {
+                let record = E::near_a_bound(rng, &around.plan, around.moment, around.cost);
+                if record.is_free(&around.plan, around.moment) {
+                    record.store(&mut table.columns, slot);
+                    break;
+                }
+            }
+        }
+        Mood::Known => {
+            table.ids[slot] = around.subscriber;
+            if rng.once_in(3) {
+                table.ids[rng.below(slots) as usize] = around.subscriber;
+            }
+        }
+    }
+}
+
+/// Makes one column shorter or longer than the others.
+fn cut<E: Engine>(rng: &mut Rng, table: &mut Table<E>) {
+    let which = rng.below(table.columns.len() as u64 + 1) as usize;
+    let slots = table.ids.len() as u64;
+    let length = rng.pick(&[slots + 1, slots.saturating_sub(1), 0, 1, 4096]) as usize;
+    if which == 0 {
+        table.ids.resize(length, 1);
+    } else {
+        table.columns[which - 1].resize(length, 1);
+    }
+}

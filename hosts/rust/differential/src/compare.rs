@@ -1,0 +1,135 @@
+//! One call, made both to the archive and to the model on equal tables, and compared whole: the answer, every column, and
+//! the guards around the columns.
+
+use crate::call::{Call, Terms};
+use crate::engine::Engine;
+use crate::lent::Lent;
+use crate::spoil::{Done, Spoil};
+use model::table::{Answer, Table};
+use std::fmt::Write;
+
+/// A difference, in words.
+pub type Difference = String;
+
+pub struct Pair<E> {
+    terms: Terms,
+    model: Table<E>,
+    real: Lent,
+    before: Table<E>,
+    spoil: Option<Spoil>,
+}
+
+impl<E: Engine> Pair<E> {
+    pub fn new(terms: Terms, table: Table<E>, spoil: Option<Spoil>) -> Pair<E> {
+        Pair {
+            terms,
+            real: Lent::new(&table),
+            before: table.clone(),
+            model: table,
+            spoil,
+        }
+    }
+
+    /// The answer on which both agree.
+    pub fn call(&mut self, call: &Call) -> Result<Answer, Difference> {
+        self.before.clone_from(&self.model);
+        let expected = self.ask_model(call);
+        let answer = self.ask_archive(call);
+        if answer != expected {
+            return Err(self.difference(call, "the answers differ", expected, answer));
+        }
+        if !self.real.holds(&self.model) {
+            return Err(self.difference(call, "the columns differ afterwards", expected, answer));
+        }
+        if !self.real.intact() {
+            let what = "the archive wrote outside the columns";
+            return Err(self.difference(call, what, expected, answer));
+        }
+        Ok(answer)
+    }
+
+    fn ask_model(&mut self, call: &Call) -> Answer {
+        let plan = self.terms.plan();
+        match *call {
+            Call::Acquire {
+                moment,
+                subscriber,
+                cost,
+            } => self.model.acquire(&plan, moment, subscriber, cost),
+            Call::Peek { moment, subscriber } => self.model.peek(&plan, moment, subscriber),
+            Call::Clear => self.model.clear(),
+        }
+    }
+
+    fn ask_archive(&mut self, call: &Call) -> Answer {
+        let mut out = E::call(&self.terms, &mut self.real, call);
+        if let Some(spoil) = self.spoil {
+            let mut done = Done {
+                plan: &self.terms.plan(),
+                call,
+                before: &self.before,
+                after: &mut self.real,
+                out: &mut out,
+            };
+            done.spoil(spoil);
+        }
+        out.map(u128::from)
+    }
+
+    /// What was called on what, and both results; `expected` is the model's or the book's answer.
+    pub fn difference(&self, call: &Call, what: &str, expected: Answer, answer: Answer) -> String {
+        let Terms {
+            limit,
+            period,
+            burst,
+        } = self.terms;
+        let mut text = format!("{}: {what}\n", E::NAME);
+        text += &format!("  plan      limit {limit} period {period} burst {burst}\n");
+        text += &format!("  call      {call}\n");
+        text += "  an answer is number, subscriber, left, reset, wait\n";
+        text += &format!("  expected  {expected:?}\n  archive   {answer:?}\n");
+        text + &self.rows(call)
+    }
+
+    /// The columns before the call, after it as expected, and after it in the archive's table.
+    fn rows(&self, call: &Call) -> String {
+        const SHOWN: usize = 16;
+        let lengths: Vec<usize> = self.before.columns.iter().map(Vec::len).collect();
+        let slots = lengths.iter().fold(self.before.ids.len(), |a, &b| a.max(b));
+        let ids = self.before.ids.len();
+        let mut text = format!("  lengths   ids {ids}, {:?} {lengths:?}\n", E::COLUMNS);
+        text += &format!(
+            "  a row is id, {:?}, '-' beyond a column's end\n",
+            E::COLUMNS
+        );
+        let mut hidden = 0;
+        for slot in 0..slots {
+            let before = row(slot, &self.before.ids, self.before.columns.iter());
+            let expected = row(slot, &self.model.ids, self.model.columns.iter());
+            let real = self.real.columns.iter().map(|c| c.inside());
+            let real = row(slot, self.real.ids.inside(), real);
+            let own = self.before.ids.get(slot) == Some(&call.subscriber());
+            if slot >= SHOWN && !own && before == expected && before == real {
+                hidden += 1;
+                continue;
+            }
+            let _ = write!(text, "  slot {slot:<4} before {before}");
+            if before != expected || before != real {
+                let _ = write!(text, "  expected {expected}  archive {real}");
+            }
+            text += "\n";
+        }
+        if hidden > 0 {
+            let _ = writeln!(text, "  {hidden} more slots, which stayed as they were");
+        }
+        text
+    }
+}
+
+/// One slot of a table in words.
+fn row<C: AsRef<[u64]>>(slot: usize, ids: &[u32], columns: impl Iterator<Item = C>) -> String {
+    let cell = |number: Option<u64>| number.map_or("-".to_string(), |n| n.to_string());
+    let mut cells = vec![cell(ids.get(slot).map(|&id| id as u64))];
+    cells.extend(columns.map(|column| cell(column.as_ref().get(slot).copied())));
+    format!("({})", cells.join(" "))
+}

@@ -1,0 +1,67 @@
+//! A table as a host lends it to the archive: columns of any lengths, each between guards that nobody may write.
+
+use model::table::{Stored, Table};
+
+const GUARDS: usize = 2;
+
+/// A column between guards. An empty one has an address too.
+#[derive(Clone)]
+pub struct Guarded<T> {
+    cells: Vec<T>,
+    guard: T,
+}
+
+impl<T: Copy + PartialEq> Guarded<T> {
+    fn new(column: &[T], guard: T) -> Guarded<T> {
+        let mut cells = vec![guard; column.len() + 2 * GUARDS];
+        cells[GUARDS..GUARDS + column.len()].copy_from_slice(column);
+        Guarded { cells, guard }
+    }
+
+    pub fn inside(&self) -> &[T] {
+        &self.cells[GUARDS..self.cells.len() - GUARDS]
+    }
+
+    pub fn inside_mut(&mut self) -> &mut [T] {
+        let end = self.cells.len() - GUARDS;
+        &mut self.cells[GUARDS..end]
+    }
+
+    pub fn intact(&self) -> bool {
+        let end = self.cells.len() - GUARDS;
+        let mut guards = self.cells[..GUARDS].iter().chain(&self.cells[end..]);
+        guards.all(|cell| *cell == self.guard)
+    }
+
+    /// Writes the first cell after the column, as a faulty archive might.
+    pub fn overrun(&mut self, value: T) {
+        let end = self.cells.len() - GUARDS;
+        self.cells[end] = value;
+    }
+}
+
+/// The ids, and the columns of the record in the order of `Stored::COLUMNS`.
+#[derive(Clone)]
+pub struct Lent {
+    pub ids: Guarded<u32>,
+    pub columns: Vec<Guarded<u64>>,
+}
+
+impl Lent {
+    pub fn new<R: Stored>(table: &Table<R>) -> Lent {
+        let column = |c: &Vec<u64>| Guarded::new(c, 0xa5a5_a5a5_a5a5_a5a5);
+        Lent {
+            ids: Guarded::new(&table.ids, 0xa5a5_a5a5),
+            columns: table.columns.iter().map(column).collect(),
+        }
+    }
+
+    pub fn intact(&self) -> bool {
+        self.ids.intact() && self.columns.iter().all(Guarded::intact)
+    }
+
+    pub fn holds<R: Stored>(&self, table: &Table<R>) -> bool {
+        let mut pairs = self.columns.iter().zip(&table.columns);
+        self.ids.inside() == table.ids && pairs.all(|(ours, theirs)| ours.inside() == theirs)
+    }
+}

@@ -1,0 +1,63 @@
+//! The command line.
+
+use crate::spoil::{self, Spoil};
+use std::time::{SystemTime, UNIX_EPOCH};
+
+pub const USAGE: &str = "\
+differential [--seed N] [--calls N] [--spoil KIND]
+  Compares the archive with the second implementation, call by call, through the C interface.
+  --seed N      the same calls again; without it the seed is taken from the time, and printed
+  --calls N     how many calls (default 2000000)
+  --spoil KIND  tries the comparison itself with one deliberate fault; '--spoil list' lists the kinds
+Ends with 0 if all agree, 1 at the first difference, 2 if not called as above, and 3 if an outcome never occurred.";
+
+pub struct Options {
+    pub seed: u64,
+    pub calls: u64,
+    pub spoil: Option<(String, Spoil)>,
+}
+
+impl Options {
+    /// The command that runs the same again.
+    pub fn again(&self) -> String {
+        let spoil = self.spoil.as_ref();
+        let spoil = spoil.map_or(String::new(), |(name, _)| format!(" --spoil {name}"));
+        format!(
+            "differential --seed {} --calls {}{spoil}",
+            self.seed, self.calls
+        )
+    }
+}
+
+pub enum Wish {
+    Run(Options),
+    List,
+}
+
+pub fn read(mut words: impl Iterator<Item = String>) -> Result<Wish, String> {
+    let now = SystemTime::now().duration_since(UNIX_EPOCH);
+    let mut options = Options {
+        seed: now.map_or(0, |since| since.as_nanos() as u64),
+        calls: 2_000_000,
+        spoil: None,
+    };
+    while let Some(word) = words.next() {
+        let value = words.next().ok_or(format!("'{word}' without a value"))?;
+        match word.as_str() {
+            "--seed" => options.seed = number(&value)?,
+            "--calls" => options.calls = number(&value)?,
+            "--spoil" if value == "list" => return Ok(Wish::List),
+            "--spoil" => {
+                let kind = spoil::by_name(&value).ok_or(format!("no fault is named '{value}'"))?;
+                options.spoil = Some((value, kind));
+            }
+            _ => return Err(format!("there is no option '{word}'")),
+        }
+    }
+    Ok(Wish::Run(options))
+}
+
+fn number(word: &str) -> Result<u64, String> {
+    word.parse()
+        .map_err(|_| format!("'{word}' is not a number"))
+}

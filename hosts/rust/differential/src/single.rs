@@ -1,0 +1,45 @@
+//! Single calls, each on a damaged table of its own.
+
+use crate::call::Call;
+use crate::choose::{self, Around};
+use crate::compare::{Difference, Pair};
+use crate::engine::Engine;
+use crate::trial::Trial;
+
+pub fn run<E: Engine>(trial: &mut Trial) -> Result<(), Difference> {
+    while trial.more() {
+        one::<E>(trial)?;
+    }
+    Ok(())
+}
+
+fn one<E: Engine>(trial: &mut Trial) -> Result<(), Difference> {
+    let rng = &mut trial.rng;
+    let terms = if rng.once_in(12) {
+        choose::bad_terms(rng)
+    } else {
+        choose::good_terms(rng)
+    };
+    let moment = choose::moment(rng);
+    let subscriber = choose::subscriber(rng);
+    let cost = choose::cost(rng, terms.burst);
+    let around = Around {
+        plan: terms.plan(),
+        moment: moment as u128,
+        subscriber,
+        cost: cost as u128,
+    };
+    let table = choose::table::<E>(rng, &around);
+    let call = match rng.below(16) {
+        0 => Call::Clear,
+        1..=4 => Call::Peek { moment, subscriber },
+        _ => Call::Acquire {
+            moment,
+            subscriber,
+            cost,
+        },
+    };
+    let answer = Pair::new(terms, table, trial.spoil).call(&call)?;
+    trial.count(&call, answer[0]);
+    Ok(())
+}
