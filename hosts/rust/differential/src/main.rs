@@ -75,8 +75,6 @@ fn run<E: Engine>(options: &Options) -> Result<(), u8> {
     Err(3)
 }
 
-const ENGINES: [fn(&Options) -> Result<(), u8>; 1] = [run::<Paced>];
-
 fn main() -> ExitCode {
     let options = match options::read(env::args().skip(1)) {
         Ok(Wish::Run(options)) => options,
@@ -90,7 +88,8 @@ fn main() -> ExitCode {
         }
     };
     println!("{}", options.again());
-    match ENGINES.iter().try_for_each(|run| run(&options)) {
+    let engines = [run::<Paced>];
+    match engines.iter().try_for_each(|run| run(&options)) {
         Ok(()) => ExitCode::SUCCESS,
         Err(status) => ExitCode::from(status),
     }
