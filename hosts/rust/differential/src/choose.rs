@@ -92,18 +92,13 @@ enum Mood {
     Known,
 }
 
+const MOODS: [Mood; 4] = [Mood::Any, Mood::Full, Mood::OneFree, Mood::Known];
+
 /// A table that is damaged in one way or another: ids twice, records of empty slots, impossible records, and columns
 /// of unequal or forbidden lengths.
 pub fn table<E: Engine>(rng: &mut Rng, around: &Around) -> Table<E> {
     let slots = length(rng);
-    let moods = [
-        Mood::Any,
-        Mood::Full,
-        Mood::OneFree,
-        Mood::Known,
-        Mood::Known,
-    ];
-    let mood = rng.pick(&moods);
+    let mood = rng.pick(&MOODS);
     let mut table = Table::<E>::cleared(slots);
     for slot in 0..slots {
         table.ids[slot] = id(rng, around.subscriber, mood);
@@ -131,17 +126,18 @@ fn length(rng: &mut Rng) -> usize {
 }
 
 fn id(rng: &mut Rng, subscriber: u32, mood: Mood) -> u32 {
+    let another = another(rng, subscriber);
     match mood {
-        Mood::Any | Mood::Known => rng.pick(&[0, 1, 2, 3, u32::MAX, subscriber.wrapping_add(1)]),
-        // anybody else
-        Mood::Full | Mood::OneFree => {
-            let other = rng.from(1, 5) as u32;
-            if other == subscriber {
-                6
-            } else {
-                other
-            }
-        }
+        Mood::Any | Mood::Known => rng.pick(&[0, 1, 2, 3, u32::MAX, another]),
+        Mood::Full | Mood::OneFree => another,
+    }
+}
+
+/// Somebody else, whose id is one bit away from the subscriber's.
+fn another(rng: &mut Rng, subscriber: u32) -> u32 {
+    match subscriber ^ (1 << rng.below(32)) {
+        0 => subscriber + 1,
+        id => id,
     }
 }
 
