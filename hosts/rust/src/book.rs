@@ -72,7 +72,8 @@ impl Book {
         settled(&self.plan, s, after)
     }
 
-    /// The largest, over every call i in the list, of P × (costs from call i to the end) − N × (s − moment of i), or 0.
+    /// The largest, over every call i in the list, of P × (costs from call i to the end) − N × (s − moment of i), or 0
+    /// if none is positive.
     fn debt(&self, subscriber: u32, s: u128) -> u128 {
         let (n, p, s) = (self.plan.limit as i128, self.plan.period as i128, s as i128);
         let (mut costs, mut largest) = (0, 0);

@@ -6,7 +6,10 @@ use crate::engine::Engine;
 use crate::lent::Lent;
 use crate::spoil::{Done, Spoil};
 use model::table::{Answer, Table};
-use std::fmt::Write;
+
+/// How many slots a difference shows, and which it shows in any case.
+const MOST_SHOWN: usize = 64;
+const ALWAYS_SHOWN: usize = 16;
 
 /// A difference, in words.
 pub type Difference = String;
@@ -91,38 +94,32 @@ impl<E: Engine> Pair<E> {
         text + &self.rows(call)
     }
 
-    /// The columns before the call, after it as expected, and after it in the archive's table.
+    /// The columns before the call, after it as expected, and after it in the archive's table: the first slots, those of
+    /// the subscriber, and those that differ.
     fn rows(&self, call: &Call) -> String {
-        const SHOWN: usize = 16;
-        let lengths: Vec<usize> = self.before.columns.iter().map(Vec::len).collect();
-        let slots = lengths.iter().fold(self.before.ids.len(), |a, &b| a.max(b));
         let ids = self.before.ids.len();
-        let mut text = format!("  lengths   ids {ids}, {:?} {lengths:?}\n", E::COLUMNS);
+        let lengths: Vec<usize> = self.before.columns.iter().map(Vec::len).collect();
+        let slots = lengths.iter().fold(ids, |a, &b| a.max(b));
+        let mut text = format!("  lengths   ids {ids}, others {lengths:?}\n");
         text += &format!(
-            "  a row is id, {:?}, '-' beyond a column's end\n",
-            E::COLUMNS
+            "  a slot is (id {}) before and after; '-' is beyond a column\n",
+            E::COLUMNS.join(" ")
         );
-        let mut hidden = 0;
+        let mut shown = 0;
         for slot in 0..slots {
             let before = row(slot, &self.before.ids, self.before.columns.iter());
             let expected = row(slot, &self.model.ids, self.model.columns.iter());
-            let real = self.real.columns.iter().map(|c| c.inside());
+            let real = self.real.columns.iter().map(|column| column.inside());
             let real = row(slot, self.real.ids.inside(), real);
             let own = self.before.ids.get(slot) == Some(&call.subscriber());
-            if slot >= SHOWN && !own && before == expected && before == real {
-                hidden += 1;
-                continue;
+            if shown < MOST_SHOWN && (slot < ALWAYS_SHOWN || own || expected != real) {
+                shown += 1;
+                text += &format!(
+                    "  slot {slot:<4} before {before}  expected {expected}  archive {real}\n"
+                );
             }
-            let _ = write!(text, "  slot {slot:<4} before {before}");
-            if before != expected || before != real {
-                let _ = write!(text, "  expected {expected}  archive {real}");
-            }
-            text += "\n";
         }
-        if hidden > 0 {
-            let _ = writeln!(text, "  {hidden} more slots, which stayed as they were");
-        }
-        text
+        text + &format!("  {shown} of {slots} slots are shown\n")
     }
 }
 
