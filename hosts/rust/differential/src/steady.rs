@@ -29,7 +29,7 @@ pub fn run<E: Engine>(trial: &mut Trial) -> Result<(), Difference> {
         Ok(())
     } else {
         Err(format!(
-            "{}: document 001's case admits {admitted} and not 40",
+            "{}: document 001's case admits {admitted} and not 40\n",
             E::NAME
         ))
     }
