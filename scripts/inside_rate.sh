@@ -1,9 +1,10 @@
 #!/bin/sh
 # No crate above `rate` looks inside its definitions: what stands above uses laws about them, never their text. Prints each
-# `unfolding` line outside crates/rate that names a definition imported from rate's specs, and fails if there is one.
+# `unfolding` line outside crates/rate that names a definition imported from rate's specs, and fails if there is one. The
+# worked examples (proofs/Worked.antt of a crate) are computed with the definitions, and are left out.
 set -eu
 cd "$(dirname "$0")/.."
-found=$(find crates -name '*.antt' -not -path 'crates/rate/*' -exec awk '
+found=$(find crates -name '*.antt' -not -path 'crates/rate/*' -not -path 'crates/*/proofs/Worked.antt' -exec awk '
     FNR == 1 { split("", own) }
     /^use Rattle\.rate\.specs\./ {
         names = $0

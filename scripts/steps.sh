@@ -11,11 +11,27 @@ fail() {
 need() { command -v "$1" >/dev/null 2>&1 || fail "the tool '$1' is missing from PATH: $2"; }
 
 need_toolchain() { need rt "it is the Rattle toolchain's command, which proves and builds the crates"; }
+need_c() { need gcc "it builds the example in C, and cargo links with it"; }
 need_rust() {
     need cargo "it builds the second implementation (no crate from a registry is needed)"
-    need gcc "cargo links with it"
+    need_c
 }
 
 # what cargo and gcc build; rt ci removes target/, so it stands beside it
 build=$root/build
 export CARGO_TARGET_DIR=$build/cargo
+
+# the proved archive of the C interface, kept where rt ci does not remove it
+export RAILCADENCE_LIB=$build
+build_archive() {
+    (cd "$root" && rt staticlib railcadence_c) >"$build/archive.log" 2>&1 || {
+        tail -n 20 "$build/archive.log" >&2
+        fail "the C interface could not be proved and built: the last lines of build/archive.log are above"
+    }
+    cp "$root/target/staticlib/librailcadence_c.a" "$build/"
+}
+
+build_example() {
+    gcc -std=c11 -O2 -Wall -Wextra -Wpedantic -Werror -o "$build/example" "$root/hosts/c/example.c" \
+        "$build/librailcadence_c.a" || fail "hosts/c/example.c does not build"
+}

@@ -1,18 +1,20 @@
 -- The laws of the calls, of the GCRA engine: each is the table's law, at GCRA's rule and columns.
 -- Assumes nothing.
 use mathlib.Core.Path.{_≡_}
-use mathlib.Core.Bool.{false}
+use mathlib.Core.Bool.{false, _&&_, _||_}
 use Prim.Native.Nat.{ℕ}
 use lib.Dec.{eqb}
 use lib.ListN.{getD}
 use Rattle.rate.specs.Gcra.{gcra}
 use Rattle.rate.proofs.GcraLaws.{gcra-lawful}
-use Rattle.table.specs.Request.{Request}
+use Rattle.table.specs.Request.{Query, Request}
 use Rattle.table.specs.Rule.{ruleOf}
+use Rattle.table.specs.Slots.{carries, vacant}
 use Rattle.table.proofs.Checks.{Payable}
 use Rattle.table.proofs.Cleared as cleared
 use Rattle.table.proofs.Numbers as numbers
 use Rattle.table.proofs.Peek as looks
+use Rattle.table.proofs.Placing as placing
 use Rattle.table.proofs.Wait as wait
 use Rattle.table.proofs.Writes as writes
 use Rattle.gcra_table.specs.Table.{Table, columns, acquire, peek, clear}
@@ -66,3 +68,11 @@ module _ (r : Request) (t : Table) where
 
   pub peek-of-denied : acquire r t .answer .number ≡ 8 → looks.SameReport gcra columns r t
   peek-of-denied = looks.peek-of-denied gcra-lawful columns r t
+
+-- a slot is free if it is empty or owes nothing
+pub vacant-owes-nothing :
+    (q : Query) (t : Table) (i : ℕ) →
+    vacant (ruleOf gcra) columns q t i
+    ≡ (carries (columns .ids t) 0 i
+    || (gcra .sound (q .plan) (q .moment) (columns .row t i) && eqb (gcra .backlog (q .plan) (q .moment) (columns .row t i)) 0))
+vacant-owes-nothing = placing.vacant-owes-nothing gcra-lawful columns

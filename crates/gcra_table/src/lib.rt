@@ -30,8 +30,10 @@ pub fn acquire(
     subscriber: u32,
     cost: u32,
 ) -> Answer
-    ensures { λ r. ⌜ numbersOf r ≡ acquire (requestOf plan (moment .0) subscriber cost) (tableOf (now (ids .entry)) (now (tats .entry))) .answer ⌝ }
-    ensures { λ r. ⌜ tableOf (now (ids .exit)) (now (tats .exit)) ≡ acquire (requestOf plan (moment .0) subscriber cost) (tableOf (now (ids .entry)) (now (tats .entry))) .after ⌝ }
+    ensures { λ r. ⌜ numbersOf r ≡ acquire (requestOf plan (moment .0) subscriber cost)
+        (tableOf (now (ids .entry)) (now (tats .entry))) .answer ⌝ }
+    ensures { λ r. ⌜ tableOf (now (ids .exit)) (now (tats .exit)) ≡ acquire (requestOf plan (moment .0) subscriber cost)
+        (tableOf (now (ids .entry)) (now (tats .entry))) .after ⌝ }
 {
     let ruling = ruling::judge(plan, ids, tats, moment, subscriber, cost);
     let outcome = ruling::commit(ids, tats, subscriber, ruling);
@@ -43,7 +45,8 @@ pub fn acquire(
 
 // What the subscriber has left at the moment, and when it has everything again.
 pub fn peek(plan: Plan, ids: &[u32], tats: &[u64], moment: Millis, subscriber: u32) -> Answer
-    ensures { λ r. ⌜ numbersOf r ≡ peek (queryOf plan (moment .0) subscriber) (tableOf (now (ids .entry)) (now (tats .entry))) .answer ⌝ }
+    ensures { λ r. ⌜ numbersOf r ≡ peek (queryOf plan (moment .0) subscriber)
+        (tableOf (now (ids .entry)) (now (tats .entry))) .answer ⌝ }
 {
     let outcome = view::view(plan, ids, tats, moment, subscriber);
     Answer {
@@ -55,7 +58,8 @@ pub fn peek(plan: Plan, ids: &[u32], tats: &[u64], moment: Millis, subscriber: u
 // Makes every column all zeros, if the columns are a table.
 pub fn clear(ids: &mut [u32], tats: &mut [u64]) -> Cleared
     ensures { λ r. ⌜ clearedNumbers r ≡ clear (tableOf (now (ids .entry)) (now (tats .entry))) .answer ⌝ }
-    ensures { λ r. ⌜ tableOf (now (ids .exit)) (now (tats .exit)) ≡ clear (tableOf (now (ids .entry)) (now (tats .entry))) .after ⌝ }
+    ensures { λ r. ⌜ tableOf (now (ids .exit)) (now (tats .exit)) ≡ clear
+        (tableOf (now (ids .entry)) (now (tats .entry))) .after ⌝ }
 {
     let slots = columns::common(ids.len(), tats.len());
     if !check::is_slot_count(slots) {

@@ -57,7 +57,8 @@ pub fn judge(
     subscriber: u32,
     cost: u32,
 ) -> Ruling
-    ensures { λ r. ⌜ rulingOf r ≡ judgeCall (ruleOf gcra) columns (requestOf plan (moment .0) subscriber cost) (tableOf (now (ids .entry)) (now (tats .entry))) ⌝ }
+    ensures { λ r. ⌜ rulingOf r ≡ judgeCall (ruleOf gcra) columns (requestOf plan (moment .0) subscriber cost)
+        (tableOf (now (ids .entry)) (now (tats .entry))) ⌝ }
 {
     let slots = columns::common(ids.len(), tats.len());
     if let Check::Failed(reason) = check::request(plan, slots, moment, subscriber, cost) {
@@ -72,8 +73,10 @@ pub fn judge(
 // Writes what is to be written, and passes the outcome on.
 pub fn commit(ids: &mut [u32], tats: &mut [u64], subscriber: u32, ruling: Ruling) -> Outcome
     requires { ⌜ Fitting ruling (tableOf (now ids) (now tats)) ⌝ }
-    ensures { λ r. ⌜ answered subscriber (verdictOf r) ≡ commit columns subscriber (tableOf (now (ids .entry)) (now (tats .entry))) (rulingOf ruling) .answer ⌝ }
-    ensures { λ r. ⌜ tableOf (now (ids .exit)) (now (tats .exit)) ≡ commit columns subscriber (tableOf (now (ids .entry)) (now (tats .entry))) (rulingOf ruling) .after ⌝ }
+    ensures { λ r. ⌜ answered subscriber (verdictOf r) ≡ commit columns subscriber
+        (tableOf (now (ids .entry)) (now (tats .entry))) (rulingOf ruling) .answer ⌝ }
+    ensures { λ r. ⌜ tableOf (now (ids .exit)) (now (tats .exit)) ≡ commit columns subscriber
+        (tableOf (now (ids .entry)) (now (tats .entry))) (rulingOf ruling) .after ⌝ }
 {
     match ruling {
         Ruling::Keep(outcome) => outcome,

@@ -35,7 +35,8 @@ fn is_vacant(plan: Plan, moment: Millis, id: u32, tat: Ticks) -> bool
 // The lowest free slot.
 fn lowest_free(plan: Plan, ids: &[u32], tats: &[u64], moment: Millis, subscriber: u32) -> Place
     requires { ⌜ length (now ids) ≡ length (now tats) ⌝ }
-    ensures { λ r. ⌜ r ≡ lowestFree (ruleOf gcra) columns (queryOf plan (moment .0) subscriber) (tableOf (now (ids .entry)) (now (tats .entry))) ⌝ }
+    ensures { λ r. ⌜ r ≡ lowestFree (ruleOf gcra) columns (queryOf plan (moment .0) subscriber)
+        (tableOf (now (ids .entry)) (now (tats .entry))) ⌝ }
 {
     let mut i = 0;
     loop {
@@ -52,7 +53,8 @@ fn lowest_free(plan: Plan, ids: &[u32], tats: &[u64], moment: Millis, subscriber
 // The own slot with its record, or else the lowest free slot with a fresh one.
 pub fn slot_for(plan: Plan, ids: &[u32], tats: &[u64], moment: Millis, subscriber: u32) -> Slot
     requires { ⌜ length (now ids) ≡ length (now tats) ⌝ }
-    ensures { λ r. ⌜ slotOf r ≡ slotFor (ruleOf gcra) columns (queryOf plan (moment .0) subscriber) (tableOf (now (ids .entry)) (now (tats .entry))) ⌝ }
+    ensures { λ r. ⌜ slotOf r ≡ slotFor (ruleOf gcra) columns (queryOf plan (moment .0) subscriber)
+        (tableOf (now (ids .entry)) (now (tats .entry))) ⌝ }
 {
     if let Place::At(own) = search::find(ids, subscriber) {
         return Slot::At {

@@ -21,7 +21,8 @@ use table::search::Place;
 // The record of a subscriber, a fresh one if it has no slot.
 fn held(plan: Plan, ids: &[u32], tats: &[u64], moment: Millis, subscriber: u32) -> Ticks
     requires { ⌜ length (now ids) ≡ length (now tats) ⌝ }
-    ensures { λ r. ⌜ r ≡ held (ruleOf gcra) columns (queryOf plan (moment .0) subscriber) (tableOf (now (ids .entry)) (now (tats .entry))) ⌝ }
+    ensures { λ r. ⌜ r ≡ held (ruleOf gcra) columns (queryOf plan (moment .0) subscriber)
+        (tableOf (now (ids .entry)) (now (tats .entry))) ⌝ }
 {
     let Place::At(own) = search::find(ids, subscriber) else {
         return gcra::fresh();
@@ -30,7 +31,8 @@ fn held(plan: Plan, ids: &[u32], tats: &[u64], moment: Millis, subscriber: u32) 
 }
 
 pub fn view(plan: Plan, ids: &[u32], tats: &[u64], moment: Millis, subscriber: u32) -> Outcome
-    ensures { λ r. ⌜ verdictOf r ≡ peekVerdict (ruleOf gcra) columns (queryOf plan (moment .0) subscriber) (tableOf (now (ids .entry)) (now (tats .entry))) ⌝ }
+    ensures { λ r. ⌜ verdictOf r ≡ peekVerdict (ruleOf gcra) columns (queryOf plan (moment .0) subscriber)
+        (tableOf (now (ids .entry)) (now (tats .entry))) ⌝ }
 {
     let slots = columns::common(ids.len(), tats.len());
     if let Check::Failed(reason) = check::query(plan, slots, moment, subscriber) {

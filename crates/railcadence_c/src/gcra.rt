@@ -20,8 +20,11 @@ pub extern "C" fn railcadence_gcra_acquire(
     cost: u32,
     out: &mut [u64; 5],
 )
-    ensures { λ _. ⌜ now (out .exit) ≡ five (acquire (requestOf (planOf limit period burst) moment subscriber cost) (tableOf (now (ids .entry)) (now (tats .entry))) .answer) ⌝ }
-    ensures { λ _. ⌜ tableOf (now (ids .exit)) (now (tats .exit)) ≡ acquire (requestOf (planOf limit period burst) moment subscriber cost) (tableOf (now (ids .entry)) (now (tats .entry))) .after ⌝ }
+    ensures { λ _. ⌜ now (out .exit) ≡ five (acquire (requestOf (planOf limit period burst) moment subscriber cost)
+        (tableOf (now (ids .entry)) (now (tats .entry))) .answer) ⌝ }
+    ensures { λ _. ⌜ tableOf (now (ids .exit)) (now (tats .exit))
+        ≡ acquire (requestOf (planOf limit period burst) moment subscriber cost)
+        (tableOf (now (ids .entry)) (now (tats .entry))) .after ⌝ }
 {
     let plan = Plan {
         limit,
@@ -44,7 +47,8 @@ pub extern "C" fn railcadence_gcra_peek(
     subscriber: u32,
     out: &mut [u64; 5],
 )
-    ensures { λ _. ⌜ now (out .exit) ≡ five (peek (queryOf (planOf limit period burst) moment subscriber) (tableOf (now (ids .entry)) (now (tats .entry))) .answer) ⌝ }
+    ensures { λ _. ⌜ now (out .exit) ≡ five (peek (queryOf (planOf limit period burst) moment subscriber)
+        (tableOf (now (ids .entry)) (now (tats .entry))) .answer) ⌝ }
 {
     let plan = Plan {
         limit,
@@ -59,7 +63,8 @@ pub extern "C" fn railcadence_gcra_peek(
 #[no_mangle]
 pub extern "C" fn railcadence_gcra_clear(ids: &mut [u32], tats: &mut [u64], out: &mut [u64; 5])
     ensures { λ _. ⌜ now (out .exit) ≡ five (clear (tableOf (now (ids .entry)) (now (tats .entry))) .answer) ⌝ }
-    ensures { λ _. ⌜ tableOf (now (ids .exit)) (now (tats .exit)) ≡ clear (tableOf (now (ids .entry)) (now (tats .entry))) .after ⌝ }
+    ensures { λ _. ⌜ tableOf (now (ids .exit)) (now (tats .exit)) ≡ clear
+        (tableOf (now (ids .entry)) (now (tats .entry))) .after ⌝ }
 {
     let cleared = gcra_table::clear(ids, tats);
     *out = five::five(cleared.to_numbers());

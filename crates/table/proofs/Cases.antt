@@ -1,6 +1,6 @@
 -- What each call comes to in each case, for any rule and any columns. A function's proof cites the case that it returns in.
 -- Assumes nothing.
-use mathlib.Core.Path.{_≡_, refl, ap, _∙_}
+use mathlib.Core.Path.{_≡_, ap, _∙_}
 use mathlib.Core.Bool.{true, false}
 use Prim.Native.Nat.{ℕ}
 use lib.Dec.{eqb}
@@ -13,7 +13,8 @@ use Rattle.table.specs.Request.{Query, Request}
 use Rattle.table.specs.Checks.{slotsOk, queryCheck, requestCheck}
 use Rattle.table.specs.Rule.{Rule}
 use Rattle.table.specs.Slots.{Columns, own, lowestFree}
-use Rattle.table.specs.Calls.{Step, Slot, none, at, Ruling, keep, write, ruled, newcomer, slotFrom, slotFor, judgeIn, judgeCall, heldAt, held, peekVerdict, clear}
+use Rattle.table.specs.Calls.{Slot, none, at, keep, write, ruled, newcomer, slotFrom, slotFor, judgeIn, judgeCall}
+use Rattle.table.specs.Calls.{heldAt, held, peekVerdict, clear}
 use Rattle.table.proofs.Checks.{guard-0, guard-not-0}
 
 -- only an admission writes

@@ -1,16 +1,16 @@
 -- The first check that applies answers: a law for each number, and what it means that all have passed.
 -- Assumes nothing.
-use mathlib.Core.Path.{_≡_, refl, sym, ap, _∙_}
-use mathlib.Core.Bool.{Bool, true, false, cond, not}
-use Prim.Native.Nat.{ℕ, zero, suc, _+_, _≤_, _<_}
+use mathlib.Core.Path.{_≡_, refl, _∙_}
+use mathlib.Core.Bool.{Bool, true, false}
+use Prim.Native.Nat.{ℕ, zero, suc, _≤_}
 use native.Mathlib.Omega.{arith}
-use lib.Dec.{eqb, leb, ltb}
+use lib.Dec.{eqb, ltb}
 use borrow.Author.Tests.{leb-true, ne-eqb}
 use Rattle.rate.specs.Grains.{planOk, onClock, InForce}
 use Rattle.rate.proofs.Limits.{in-force}
 use Rattle.rate.proofs.Tests.{both}
 use Rattle.table.specs.Request.{Query, Request}
-use Rattle.table.specs.Checks.{mostSlots, slotsOk, queryCheck, costCheck, requestCheck, guard}
+use Rattle.table.specs.Checks.{slotsOk, queryCheck, costCheck, requestCheck, guard}
 
 -- a number that is not 0 is given by itself
 pub guard-not-0 : {A : Type 0} (refuse : ℕ → A) (n : ℕ) (rest : A) → eqb n 0 ≡ false → guard refuse n rest ≡ refuse n

@@ -1,13 +1,13 @@
 -- A clear that answers 0 leaves a table in which any cost up to the burst is admitted, into slot 0.
 -- Assumes nothing.
 use mathlib.Core.Path.{_≡_, refl, sym, ap, subst, _∙_}
-use mathlib.Core.Bool.{Bool, true, false, false≢true, _||_}
+use mathlib.Core.Bool.{Bool, true, false, _||_}
 use mathlib.Core.List.{List}
-use Prim.Native.Nat.{ℕ, _≤_, _<_}
+use Prim.Native.Nat.{ℕ, _<_}
 use native.Mathlib.Omega.{arith}
 use lib.Dec.{eqb}
-use lib.ListN.{length, getD, replicate, getD-replicate}
-use borrow.Author.Tests.{eq-eqb, ne-eqb, eqb-false}
+use lib.ListN.{length, getD, getD-replicate}
+use borrow.Author.Tests.{ne-eqb, eqb-false}
 use Rattle.rate.specs.Decision.{bare}
 use Rattle.rate.specs.Engine.{Engine}
 use Rattle.rate.proofs.Answers.{answered-number, bare-number, admitted-number}

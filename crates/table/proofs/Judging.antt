@@ -18,7 +18,7 @@ use Rattle.table.specs.Request.{Query, Request}
 use Rattle.table.specs.Checks.{checkNumber, queryCheck, requestCheck}
 use Rattle.table.specs.Rule.{Rule}
 use Rattle.table.specs.Slots.{Columns, common}
-use Rattle.table.specs.Calls.{Slot, none, at, Ruling, keep, write, ruled, slotFor, judgeCall, held, peekVerdict}
+use Rattle.table.specs.Calls.{none, at, Ruling, keep, write, ruled, slotFor, judgeCall, held, peekVerdict}
 use Rattle.table.proofs.Cases.{ruled-writes, ruled-keeps, judge-refused, judge-full, judge-at, peek-refused, peek-reported}
 use Rattle.table.proofs.Checks.{Asked, asked, payable, slots-least}
 use Rattle.table.proofs.Slots.{common-equal}

@@ -2,7 +2,7 @@
 -- Assumes nothing.
 use mathlib.Core.Path.{_≡_, refl, sym, ap, subst, _∙_}
 use mathlib.Core.Bool.{Bool, true, false}
-use Prim.Native.Nat.{ℕ, zero, suc}
+use Prim.Native.Nat.{ℕ, suc}
 use native.Mathlib.Omega.{arith}
 use lib.Dec.{eqb, ltb}
 use borrow.Author.Tests.{ne-eqb}
@@ -18,7 +18,7 @@ use Rattle.table.specs.Rule.{ruleOf}
 use Rattle.table.specs.Slots.{Columns}
 use Rattle.table.specs.Calls.{Step, slotFor, acquire}
 use Rattle.table.proofs.Checks.{Asked, Payable, asks, query-first, number-1, number-2, number-3, number-4, number-5, number-6}
-use Rattle.table.proofs.Outcomes.{refused, full, corrupt, waits, admits, admits-new, soundAt, admitsAt, owedAt, freshAt}
+use Rattle.table.proofs.Outcomes.{refused, full, corrupt, waits, admits, admits-new, soundAt, admitsAt}
 use Rattle.table.proofs.Placing.{Own, Unknown, Vacant, Full, Placed, in-own, in-free, nowhere, placed}
 
 module _ {C R : Type 0} (E : Engine R) (K : Columns C R) (r : Request) (c : C) where

@@ -1,12 +1,11 @@
 -- What an acquire answers and leaves in each case, whole: a check that applies; the own record impossible, admitting or
 -- not; a newcomer in a free slot; no slot. It is said once, of every engine with the backlog law and of all columns.
 -- Assumes nothing.
-use mathlib.Core.Path.{_≡_, refl, sym, ap, _∙_}
+use mathlib.Core.Path.{_≡_, ap, _∙_}
 use mathlib.Core.Bool.{Bool, true, false}
-use Prim.Native.Nat.{ℕ, _≤_}
+use Prim.Native.Nat.{ℕ}
 use lib.Dec.{eqb}
 use borrow.Author.Tests.{eq-eqb, ltb-false}
-use Rattle.rate.specs.declared.plan.Plan.{Plan}
 use Rattle.rate.specs.Answer.{answered}
 use Rattle.rate.specs.Decision.{Verdict, bare, admitted, throttled}
 use Rattle.rate.specs.Engine.{Engine, Judged, judge}
@@ -14,7 +13,7 @@ use Rattle.rate.proofs.Answers.{bare-number, admitted-number, throttled-number}
 use Rattle.rate.proofs.Cases.{judge-corrupt, judge-admitted, judge-throttled}
 use Rattle.rate.proofs.Fresh.{fresh-admits}
 use Rattle.rate.proofs.Lawful.{Lawful}
-use Rattle.table.specs.Request.{Query, Request}
+use Rattle.table.specs.Request.{Request}
 use Rattle.table.specs.Checks.{requestCheck}
 use Rattle.table.specs.Rule.{Rule, ruleOf}
 use Rattle.table.specs.Slots.{Columns, own, lowestFree}

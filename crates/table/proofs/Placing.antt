@@ -2,19 +2,20 @@
 -- none; and only an admission writes, into that slot.
 -- Assumes nothing.
 use mathlib.Core.Path.{_≡_, refl, ap, _∙_}
-use mathlib.Core.Bool.{Bool, true, false, cond}
+use mathlib.Core.Bool.{Bool, true, false, cond, _&&_, _||_}
 use Prim.Native.Nat.{ℕ, zero, suc, _<_}
 use native.Mathlib.Omega.{arith}
 use lib.Dec.{eqb}
 use borrow.Author.Tests.{eqb-true, ne-eqb}
 use Rattle.rate.specs.Decision.{Verdict, bare}
-use Rattle.rate.specs.Engine.{Judged}
+use Rattle.rate.specs.Engine.{Engine, Judged}
 use Rattle.rate.proofs.Answers.{bare-number}
+use Rattle.rate.proofs.Lawful.{Lawful}
 use Rattle.table.specs.declared.search.Place.{Place}
 use Rattle.table.specs.declared.search.Place.the-variants.{Nowhere, At}
 use Rattle.table.specs.Request.{Query, Request}
 use Rattle.table.specs.Checks.{requestCheck, guard}
-use Rattle.table.specs.Rule.{Rule}
+use Rattle.table.specs.Rule.{Rule, ruleOf}
 use Rattle.table.specs.Slots.{Columns, seek, carries, own, vacant, lowestFree}
 use Rattle.table.specs.Calls.{Slot, none, at, Ruling, keep, write, ruled, newcomer, slotFrom, slotFor, judgeIn, judgeCall}
 use Rattle.table.proofs.Seek.{NoneBelow, Lowest, Sought, sought}
@@ -27,6 +28,15 @@ module _ {C R : Type 0} (K : Columns C R) (q : Query) (c : C) where
   -- no slot carries it
   abbrev pub Unknown : Type 0
   Unknown = NoneBelow (carries (K .ids c) (q .subscriber)) (K .slots c)
+
+-- a slot is free if it is empty or owes nothing
+pub vacant-owes-nothing :
+    {C R : Type 0} {E : Engine R} → Lawful E → (K : Columns C R) (q : Query) (c : C) (i : ℕ) →
+    vacant (ruleOf E) K q c i
+    ≡ (carries (K .ids c) 0 i
+    || (E .sound (q .plan) (q .moment) (K .row c i) && eqb (E .backlog (q .plan) (q .moment) (K .row c i)) 0))
+unfolding vacant ruleOf
+vacant-owes-nothing L K q c i = ap (λ (t : Bool). carries (K .ids c) 0 i || t) (L .free-iff (q .plan) (q .moment) (K .row c i))
 
 module _ {C R : Type 0} (U : Rule R) (K : Columns C R) (q : Query) (c : C) where
   -- slot i is free, and none below it is

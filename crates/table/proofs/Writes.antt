@@ -1,16 +1,15 @@
 -- What an acquire writes: a number other than 0 leaves the columns as they were; number 0 overwrites one slot whole, the
 -- subscriber's own or else the lowest free one, and leaves every other slot as it was.
 -- Assumes nothing.
-use mathlib.Core.Path.{_≡_, refl, sym, ap, subst, _∙_}
-use mathlib.Core.Bool.{true, false, false≢true}
-use Prim.Native.Nat.{ℕ, _≤_, _<_}
+use mathlib.Core.Path.{_≡_, refl, sym, ap, _∙_}
+use mathlib.Core.Bool.{false, false≢true}
+use Prim.Native.Nat.{ℕ, _<_}
 use native.Mathlib.Omega.{arith}
 use lib.Dec.{eqb}
-use lib.ListN.{getD, set}
+use lib.ListN.{getD}
 use lib.Seq.{getD-set-same, getD-set-other}
 use borrow.Author.Tests.{eq-eqb}
 use mathlib.Core.List.{List}
-use Rattle.rate.specs.Decision.{Verdict}
 use Rattle.rate.proofs.Answers.{answered-number}
 use Rattle.table.specs.Request.{Request}
 use Rattle.table.specs.Rule.{Rule}
@@ -28,17 +27,21 @@ module _ {C R : Type 0} (U : Rule R) (K : Columns C R) (r : Request) (c : C) whe
     pub takes : Taken U K (r .query) c place
     pub after : acquire U K r c .after ≡ K .put c place (r .query .subscriber) held
 
-  denied : (x : Ruling R) → judgeCall U K r c ≡ x → Effect U K r c x → eqb (acquire U K r c .answer .number) 0 ≡ false → acquire U K r c .after ≡ c
+  denied :
+      (x : Ruling R) → judgeCall U K r c ≡ x → Effect U K r c x → eqb (acquire U K r c .answer .number) 0 ≡ false →
+      acquire U K r c .after ≡ c
   denied (keep v) e h n = ap (λ (s : Step C). s .after) (acquire-keeps U K r c e)
   denied (write v i held) e h n =
-      absurd (false≢true (sym n ∙ eq-eqb _ _ (ap (λ (s : Step C). s .answer .number) (acquire-writes U K r c e) ∙ answered-number (r .query .subscriber) v ∙ h .number)))
+      let number = ap (λ (s : Step C). s .answer .number) (acquire-writes U K r c e) ∙ answered-number (r .query .subscriber) v in
+      absurd (false≢true (sym n ∙ eq-eqb _ _ (number ∙ h .number)))
 
   pub denied-changes-nothing : eqb (acquire U K r c .answer .number) 0 ≡ false → acquire U K r c .after ≡ c
   denied-changes-nothing = denied (judgeCall U K r c) refl (effect U K r c)
 
   admission : (x : Ruling R) → judgeCall U K r c ≡ x → Effect U K r c x → acquire U K r c .answer .number ≡ 0 → Admission
   admission (keep v) e h n =
-      absurd (false≢true (sym h ∙ eq-eqb _ _ (sym (answered-number (r .query .subscriber) v) ∙ sym (ap (λ (s : Step C). s .answer .number) (acquire-keeps U K r c e)) ∙ n)))
+      let number = ap (λ (s : Step C). s .answer .number) (acquire-keeps U K r c e) ∙ answered-number (r .query .subscriber) v in
+      absurd (false≢true (sym h ∙ eq-eqb _ _ (sym number ∙ n)))
   admission (write v i held) e h n =
       record { place = i; held = held; takes = h .place; after = ap (λ (s : Step C). s .after) (acquire-writes U K r c e) }
 

@@ -1,13 +1,10 @@
 -- `gcra_table::acquire` meets its contract: what was judged is committed.
 -- Assumes nothing.
 use borrow.Author.Needs.{needs}
-use Rattle.gcra_table.proofs.ruling.commit.Reads as commit-reads
-use Rattle.gcra_table.proofs.ruling.judge.Reads as judge-reads
 use mathlib.Core.Path.{ap, _∙_}
 use denote.Ref.{now}
 use Rattle.rate.specs.declared.units.Ticks.{Ticks}
 use Rattle.rate.proofs.Answers.{numbers}
-use Rattle.table.specs.Request.{requestOf}
 use Rattle.table.specs.Calls.{Ruling, commit, acquire}
 use Rattle.gcra_table.specs.Table.{tableOf, columns}
 use Rattle.gcra_table.proofs.Fits.{fits}
@@ -20,7 +17,8 @@ judge-requires c κs = search needs
 commit-requires : tie.Need-commit-requires
 commit-requires c κs =
     let S = c .before .before .before .before .before .before .before .args in
-    fits (requestOf (S .plan) (S .moment .0) (S .subscriber) (S .cost)) (tableOf (now (S .ids)) (now (S .tats))) (c .before .before .judge .result) (c .before .before .judge .ensures)
+    let t = tableOf (now (S .ids)) (now (S .tats)) in
+    fits _ t (c .before .before .judge .result) (c .before .before .judge .ensures)
 
 same-length : tie.Need-same-length
 same-length c = search needs
@@ -31,9 +29,12 @@ same-length-2 c = search needs
 returns : tie.Need-returns
 unfolding acquire
 returns c =
-    let S = c .before .before .before .before .before .before .before .before .before .before .before .before .args in (
-      numbers (S .subscriber) (c .before .before .before .before .commit .result) ∙ c .before .before .before .before .commit .ensures .0 ∙ ap (λ (x : Ruling Ticks). commit columns (S .subscriber) (tableOf (now (S .ids)) (now (S .tats))) x .answer) (c .before .before .before .before .before .before .before .judge .ensures),
-      c .before .before .before .before .commit .ensures .1 ∙ ap (λ (x : Ruling Ticks). commit columns (S .subscriber) (tableOf (now (S .ids)) (now (S .tats))) x .after) (c .before .before .before .before .before .before .before .judge .ensures),
+    let S = c .before .before .before .before .before .before .before .before .before .before .before .before .args in
+    let t = tableOf (now (S .ids)) (now (S .tats)) in
+    let done = c .before .before .before .before .commit in (
+      numbers (S .subscriber) (done .result) ∙ done .ensures .0
+          ∙ ap (λ (x : Ruling Ticks). commit columns (S .subscriber) t x .answer) (c .before .before .before .before .before .before .before .judge .ensures),
+      done .ensures .1 ∙ ap (λ (x : Ruling Ticks). commit columns (S .subscriber) t x .after) (c .before .before .before .before .before .before .before .judge .ensures),
     )
 
 pub acquire-spec : {M : Type 1} → statement M

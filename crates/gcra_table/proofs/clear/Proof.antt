@@ -1,10 +1,6 @@
 -- `gcra_table::clear` meets its contract: both columns are zeros, or neither is touched.
 -- Assumes nothing.
 use borrow.Author.Needs.{needs}
-use Rattle.table.proofs.check.is_slot_count.Reads as is-slot-count-reads
-use Rattle.table.proofs.columns.common.Reads as common-reads
-use Rattle.table.proofs.columns.zero_u32.Reads as zero-u32-reads
-use Rattle.table.proofs.columns.zero_u64.Reads as zero-u64-reads
 use mathlib.Core.Path.{sym, ap, ap₂, _∙_}
 use mathlib.Core.List.{List}
 use Prim.Native.Nat.{ℕ}
@@ -28,8 +24,12 @@ returns : tie.Need-returns
 unfolding columns
 returns c =
     let S = c .before .before .before .before .before .args in
-    let done = clear-unfit columns (tableOf (now (S .ids)) (now (S .tats))) (ap (λ (n : ℕ). slotsOk n) (sym (c .before .before .common .ensures)) ∙ sym (c .before .is-slot-count .ensures) ∙ not-true _ (c .if1 .taken)) in
-    (cleared-unfit ∙ sym (ap (λ (s : Step Table). s .answer) done), sym (ap (λ (s : Step Table). s .after) done))
+    let t = tableOf (now (S .ids)) (now (S .tats)) in
+    let counted = ap (λ (n : ℕ). slotsOk n) (sym (c .before .before .common .ensures)) ∙ sym (c .before .is-slot-count .ensures) in
+    let step = clear-unfit columns t (counted ∙ not-true _ (c .if1 .taken)) in (
+      cleared-unfit ∙ sym (ap (λ (s : Step Table). s .answer) step),
+      sym (ap (λ (s : Step Table). s .after) step),
+    )
 
 zero-u32-requires : tie.Need-zero-u32-requires
 zero-u32-requires c κs = search needs
@@ -47,9 +47,12 @@ returns-2 : tie.Need-returns-2
 unfolding columns
 returns-2 c =
     let S = c .before .before .before .before .before .before .before .before .before .before .before .before .before .args in
-    let done = clear-done columns (tableOf (now (S .ids)) (now (S .tats))) (ap (λ (n : ℕ). slotsOk n) (sym (c .before .before .before .before .before .before .before .before .before .before .common .ensures)) ∙ sym (c .before .before .before .before .before .before .before .before .before .is-slot-count .ensures) ∙ not-false _ (c .before .before .before .before .before .before .before .before .if1 .left)) in (
-      cleared-done ∙ sym (ap (λ (s : Step Table). s .answer) done),
-      ap₂ (λ (ids tats : List ℕ). tableOf ids tats) (c .before .before .before .before .before .before .zero-u32 .ensures) (c .before .before .zero-u64 .ensures) ∙ sym (ap (λ (s : Step Table). s .after) done),
+    let t = tableOf (now (S .ids)) (now (S .tats)) in
+    let counted = ap (λ (n : ℕ). slotsOk n) (sym (c .before .before .before .before .before .before .before .before .before .before .common .ensures)) ∙ sym (c .before .before .before .before .before .before .before .before .before .is-slot-count .ensures) in
+    let step = clear-done columns t (counted ∙ not-false _ (c .before .before .before .before .before .before .before .before .if1 .left)) in (
+      cleared-done ∙ sym (ap (λ (s : Step Table). s .answer) step),
+      ap₂ (λ (ids tats : List ℕ). tableOf ids tats) (c .before .before .before .before .before .before .zero-u32 .ensures) (c .before .before .zero-u64 .ensures)
+          ∙ sym (ap (λ (s : Step Table). s .after) step),
     )
 
 pub clear-spec : {M : Type 1} → statement M

@@ -1,7 +1,6 @@
 -- `gcra_table::peek` meets its contract: it names the subscriber asked for.
 -- Assumes nothing.
 use borrow.Author.Needs.{needs}
-use Rattle.gcra_table.proofs.view.view.Reads as view-reads
 use Rattle.rate.specs.Decision.{Verdict}
 use Rattle.rate.specs.Answer.{answered}
 use Rattle.table.specs.Calls.{peek}

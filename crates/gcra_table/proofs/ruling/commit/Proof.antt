@@ -2,7 +2,9 @@
 -- Assumes nothing.
 use borrow.Author.Needs.{needs}
 use mathlib.Core.Path.{sym, ap, subst}
+use Prim.Native.Nat.{_<_}
 use native.Mathlib.Omega.{arith}
+use lib.ListN.{length}
 use denote.Ref.{now}
 use Rattle.table.specs.Calls.{commit}
 use Rattle.gcra_table.specs.declared.ruling.Ruling.{Ruling}
@@ -16,27 +18,40 @@ enum-known-ruling c = search needs
 enum-known-ruling-2 : tie.Need-enum-known-ruling-2
 enum-known-ruling-2 c = search needs
 
-mul-ids : tie.Need-mul-ids
+-- the place to write is a slot
+in-ids : (c : tie.After-known-told2) → c .before .ruling2 .given .0 .1 .0 < length (now (c .before .before .before .args .ids))
 unfolding Fitting
-mul-ids c = omega (arith, (subst (λ (x : Ruling). Fitting x (tableOf (now ((c .before .before .before .args) .ids)) (now ((c .before .before .before .args) .tats)))) (c .before .ruling2 .given .1) (c .before .before .before .pre)) .0)
+in-ids c =
+    let S = c .before .before .before .args in
+    subst (λ (x : Ruling). Fitting x (tableOf (now (S .ids)) (now (S .tats)))) (c .before .ruling2 .given .1) (c .before .before .before .pre) .0
+
+in-tats : (c : tie.After-known-told2) → c .before .ruling2 .given .0 .1 .0 < length (now (c .before .before .before .args .tats))
+unfolding Fitting
+in-tats c =
+    let S = c .before .before .before .args in
+    subst (λ (x : Ruling). Fitting x (tableOf (now (S .ids)) (now (S .tats)))) (c .before .ruling2 .given .1) (c .before .before .before .pre) .1
+
+mul-ids : tie.Need-mul-ids
+mul-ids c = omega (arith, in-ids c)
 
 slice-write-ids : tie.Need-slice-write-ids
-unfolding Fitting
-slice-write-ids c = (subst (λ (x : Ruling). Fitting x (tableOf (now ((c .before .before .before .args) .ids)) (now ((c .before .before .before .args) .tats)))) (c .before .ruling2 .given .1) (c .before .before .before .pre)) .0
+slice-write-ids c = in-ids c
 
 mul-tats : tie.Need-mul-tats
-unfolding Fitting
-mul-tats c = omega (arith, (subst (λ (x : Ruling). Fitting x (tableOf (now ((c .before .before .before .args) .ids)) (now ((c .before .before .before .args) .tats)))) (c .before .ruling2 .given .1) (c .before .before .before .pre)) .1)
+mul-tats c = omega (arith, in-tats c)
 
 slice-write-tats : tie.Need-slice-write-tats
-unfolding Fitting
-slice-write-tats c = (subst (λ (x : Ruling). Fitting x (tableOf (now ((c .before .before .before .args) .ids)) (now ((c .before .before .before .args) .tats)))) (c .before .ruling2 .given .1) (c .before .before .before .pre)) .1
+slice-write-tats c = in-tats c
 
 returns : tie.Need-returns
 unfolding commit rulingOf columns
 returns c =
     let S = c .before .before .before .args in
-    (sym (ap (λ (x : Ruling). commit columns (S .subscriber) (tableOf (now (S .ids)) (now (S .tats))) (rulingOf x) .answer) (c .before .ruling .given .1)), sym (ap (λ (x : Ruling). commit columns (S .subscriber) (tableOf (now (S .ids)) (now (S .tats))) (rulingOf x) .after) (c .before .ruling .given .1)))
+    let t = tableOf (now (S .ids)) (now (S .tats)) in
+    let told = c .before .ruling .given .1 in (
+      sym (ap (λ (x : Ruling). commit columns (S .subscriber) t (rulingOf x) .answer) told),
+      sym (ap (λ (x : Ruling). commit columns (S .subscriber) t (rulingOf x) .after) told),
+    )
 
 same-length : tie.Need-same-length
 same-length c = search needs
@@ -48,7 +63,11 @@ returns-2 : tie.Need-returns-2
 unfolding commit rulingOf columns
 returns-2 c =
     let S = c .before .before .before .args in
-    (sym (ap (λ (x : Ruling). commit columns (S .subscriber) (tableOf (now (S .ids)) (now (S .tats))) (rulingOf x) .answer) (c .before .ruling2 .given .1)), sym (ap (λ (x : Ruling). commit columns (S .subscriber) (tableOf (now (S .ids)) (now (S .tats))) (rulingOf x) .after) (c .before .ruling2 .given .1)))
+    let t = tableOf (now (S .ids)) (now (S .tats)) in
+    let told = c .before .ruling2 .given .1 in (
+      sym (ap (λ (x : Ruling). commit columns (S .subscriber) t (rulingOf x) .answer) told),
+      sym (ap (λ (x : Ruling). commit columns (S .subscriber) t (rulingOf x) .after) told),
+    )
 
 pub commit-spec : {M : Type 1} → statement M
 commit-spec =

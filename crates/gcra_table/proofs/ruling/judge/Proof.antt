@@ -1,10 +1,6 @@
 -- `gcra_table::ruling::judge` meets its contract: a check that applies, no slot, or the record in its slot.
 -- Assumes nothing.
 use borrow.Author.Needs.{needs}
-use Rattle.gcra_table.proofs.ruling.rule.Reads as rule-reads
-use Rattle.gcra_table.proofs.slot.slot_for.Reads as slot-for-reads
-use Rattle.table.proofs.check.request.Reads as request-reads
-use Rattle.table.proofs.columns.common.Reads as common-reads
 use mathlib.Core.Path.{sym, ap, _∙_}
 use Prim.Native.Nat.{ℕ}
 use lib.ListN.{length}
@@ -34,7 +30,10 @@ returns : tie.Need-returns
 unfolding rulingOf columns
 returns c =
     let S = c .before .before .before .before .before .before .before .args in
-    judges-refused (ruleOf gcra) columns (tableOf (now (S .ids)) (now (S .tats))) (requestOf (S .plan) (S .moment .0) (S .subscriber) (S .cost)) ((c .before .before .before .request .ensures) ∙ ap (λ (n : ℕ). requestCheck (requestOf (S .plan) (S .moment .0) (S .subscriber) (S .cost)) n) (c .before .before .before .before .common .ensures)) (c .before .reason .given .1)
+    let r = requestOf (S .plan) (S .moment .0) (S .subscriber) (S .cost) in
+    let t = tableOf (now (S .ids)) (now (S .tats)) in
+    let says = c .before .before .before .request .ensures ∙ ap (λ (n : ℕ). requestCheck r n) (c .before .before .before .before .common .ensures) in
+    judges-refused (ruleOf gcra) columns t r says (c .before .reason .given .1)
 
 enum-told : tie.Need-enum-told
 enum-told c = search needs
@@ -42,7 +41,11 @@ enum-told c = search needs
 slot-for-requires : tie.Need-slot-for-requires
 slot-for-requires c κs =
     let S = c .before .before .before .before .before .before .args in
-    asked-equal (queryOf (S .plan) (S .moment .0) (S .subscriber)) (length (now (S .ids))) (length (now (S .tats))) (request-asked (common (length (now (S .ids))) (length (now (S .tats)))) (requestOf (S .plan) (S .moment .0) (S .subscriber) (S .cost)) ((c .before .before .request .ensures) ∙ ap (λ (n : ℕ). requestCheck (requestOf (S .plan) (S .moment .0) (S .subscriber) (S .cost)) n) (c .before .before .before .common .ensures)) (c .enum-told .given .1))
+    let q = queryOf (S .plan) (S .moment .0) (S .subscriber) in
+    let r = requestOf (S .plan) (S .moment .0) (S .subscriber) (S .cost) in
+    let slots = common (length (now (S .ids))) (length (now (S .tats))) in
+    let says = c .before .before .request .ensures ∙ ap (λ (n : ℕ). requestCheck r n) (c .before .before .before .common .ensures) in
+    asked-equal q (length (now (S .ids))) (length (now (S .tats))) (request-asked slots r says (c .enum-told .given .1))
 
 enum-known-place : tie.Need-enum-known-place
 enum-known-place c = search needs
@@ -54,18 +57,30 @@ returns-2 : tie.Need-returns-2
 unfolding rulingOf columns slotOf
 returns-2 c =
     let S = c .before .before .before .before .before .before .before .before .before .args in
-    judges-full (ruleOf gcra) columns (tableOf (now (S .ids)) (now (S .tats))) (requestOf (S .plan) (S .moment .0) (S .subscriber) (S .cost)) ((c .before .before .before .before .before .request .ensures) ∙ ap (λ (n : ℕ). requestCheck (requestOf (S .plan) (S .moment .0) (S .subscriber) (S .cost)) n) (c .before .before .before .before .before .before .common .ensures)) (c .before .before .before .enum-told .given .1) (sym (ap (λ (s : Slot). slotOf s) (c .enum-told2 .given .1)) ∙ c .before .before .slot-for .ensures)
+    let r = requestOf (S .plan) (S .moment .0) (S .subscriber) (S .cost) in
+    let t = tableOf (now (S .ids)) (now (S .tats)) in
+    let says = c .before .before .before .before .before .request .ensures ∙ ap (λ (n : ℕ). requestCheck r n) (c .before .before .before .before .before .before .common .ensures) in
+    let full = sym (ap (λ (s : Slot). slotOf s) (c .enum-told2 .given .1)) ∙ c .before .before .slot-for .ensures in
+    judges-full (ruleOf gcra) columns t r says (c .before .before .before .enum-told .given .1) full
 
 rule-requires : tie.Need-rule-requires
 rule-requires c κs =
     let S = c .before .before .before .before .before .before .before .before .before .before .args in
-    asked-in-force (queryOf (S .plan) (S .moment .0) (S .subscriber)) (common (length (now (S .ids))) (length (now (S .tats)))) (request-asked (common (length (now (S .ids))) (length (now (S .tats)))) (requestOf (S .plan) (S .moment .0) (S .subscriber) (S .cost)) ((c .before .before .before .before .before .before .request .ensures) ∙ ap (λ (n : ℕ). requestCheck (requestOf (S .plan) (S .moment .0) (S .subscriber) (S .cost)) n) (c .before .before .before .before .before .before .before .common .ensures)) (c .before .before .before .before .enum-told .given .1))
+    let q = queryOf (S .plan) (S .moment .0) (S .subscriber) in
+    let r = requestOf (S .plan) (S .moment .0) (S .subscriber) (S .cost) in
+    let slots = common (length (now (S .ids))) (length (now (S .tats))) in
+    let says = c .before .before .before .before .before .before .request .ensures ∙ ap (λ (n : ℕ). requestCheck r n) (c .before .before .before .before .before .before .before .common .ensures) in
+    asked-in-force q slots (request-asked slots r says (c .before .before .before .before .enum-told .given .1))
 
 returns-3 : tie.Need-returns-3
 unfolding rulingOf columns slotOf ruleOf
 returns-3 c =
     let S = c .before .before .before .before .before .before .before .before .before .before .before .args in
-    judges-at (ruleOf gcra) columns (tableOf (now (S .ids)) (now (S .tats))) (requestOf (S .plan) (S .moment .0) (S .subscriber) (S .cost)) ((c .before .before .before .before .before .before .before .request .ensures) ∙ ap (λ (n : ℕ). requestCheck (requestOf (S .plan) (S .moment .0) (S .subscriber) (S .cost)) n) (c .before .before .before .before .before .before .before .before .common .ensures)) (c .before .before .before .before .before .enum-told .given .1) (sym (ap (λ (s : Slot). slotOf s) (c .before .before .place .given .1)) ∙ c .before .before .before .before .slot-for .ensures) (c .rule .ensures)
+    let r = requestOf (S .plan) (S .moment .0) (S .subscriber) (S .cost) in
+    let t = tableOf (now (S .ids)) (now (S .tats)) in
+    let says = c .before .before .before .before .before .before .before .request .ensures ∙ ap (λ (n : ℕ). requestCheck r n) (c .before .before .before .before .before .before .before .before .common .ensures) in
+    let slot = sym (ap (λ (s : Slot). slotOf s) (c .before .before .place .given .1)) ∙ c .before .before .before .before .slot-for .ensures in
+    judges-at (ruleOf gcra) columns t r says (c .before .before .before .before .before .enum-told .given .1) slot (c .rule .ensures)
 
 pub judge-spec : {M : Type 1} → statement M
 judge-spec =

@@ -1,8 +1,6 @@
 -- `gcra_table::ruling::rule` meets its contract: it writes where the engine admits.
 -- Assumes nothing.
 use borrow.Author.Needs.{needs}
-use Rattle.rate.proofs.answer.Outcome.is_admitted.Reads as is-admitted-reads
-use Rattle.rate.proofs.gcra.judge.Reads as judge-reads
 use Rattle.gcra_table.specs.Table.{rulingOf}
 use Rattle.rate.specs.Engine.{judge}
 use Rattle.rate.specs.Gcra.{gcra}

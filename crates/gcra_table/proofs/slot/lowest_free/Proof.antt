@@ -1,6 +1,5 @@
 -- `gcra_table::slot::lowest_free` meets its contract: no slot before i is free.
 -- Assumes nothing.
-use Rattle.gcra_table.proofs.slot.is_vacant.Reads as is-vacant-reads
 use Prim.Native.Nat.{_-_}
 use native.Mathlib.Omega.{arith}
 use lib.ListN.{length}
@@ -54,14 +53,19 @@ loop-again c = none-next _ (c .before .before .before .before .before .loop .i) 
 returns : tie.Need-returns Inv-loop μ-loop
 returns c =
     let S = c .before .before .before .before .args in
-    sym (free-all (now (S .ids)) (now (S .tats)) (c .before .before .before .before .pre) (queryOf (S .plan) (S .moment .0) (S .subscriber)) (seek-end _ _ (c .before .loop .i) (c .before .loop .inv) (c .if1 .taken)) refl)
+    let q = queryOf (S .plan) (S .moment .0) (S .subscriber) in
+    sym (free-all (now (S .ids)) (now (S .tats)) (c .before .before .before .before .pre) q
+    (seek-end _ _ (c .before .loop .i) (c .before .loop .inv) (c .if1 .taken)) refl)
 
 returns-2 : tie.Need-returns-2 Inv-loop μ-loop
 unfolding vacant carries columns ruleOf
 returns-2 c =
     let S = c .before .before .before .before .before .before .before .before .args in
-    sym (free-all (now (S .ids)) (now (S .tats)) (c .before .before .before .before .before .before .before .before .pre) (queryOf (S .plan) (S .moment .0) (S .subscriber))
-    (seek-here _ _ (c .before .before .before .before .before .loop .i) (c .before .before .before .before .before .loop .inv) (c .before .before .before .before .if1 .left) (sym (c .before .is-vacant .ensures) ∙ c .if2 .taken)) refl)
+    let q = queryOf (S .plan) (S .moment .0) (S .subscriber) in
+    let at-loop = c .before .before .before .before .before .loop in
+    let free = sym (c .before .is-vacant .ensures) ∙ c .if2 .taken in
+    sym (free-all (now (S .ids)) (now (S .tats)) (c .before .before .before .before .before .before .before .before .pre) q
+    (seek-here _ _ (at-loop .i) (at-loop .inv) (c .before .before .before .before .if1 .left) free) refl)
 
 pub lowest-free-spec : {M : Type 1} → statement M
 lowest-free-spec =

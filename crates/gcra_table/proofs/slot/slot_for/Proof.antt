@@ -1,9 +1,6 @@
 -- `gcra_table::slot::slot_for` meets its contract: the own slot, or a newcomer's, or none.
 -- Assumes nothing.
 use borrow.Author.Needs.{needs}
-use Rattle.gcra_table.proofs.slot.lowest_free.Reads as lowest-free-reads
-use Rattle.rate.proofs.gcra.fresh.Reads as fresh-reads
-use Rattle.table.proofs.search.find.Reads as find-reads
 use mathlib.Core.Path.{sym, ap, _∙_}
 use native.Mathlib.Omega.{arith}
 use denote.Ref.{now}
@@ -11,7 +8,6 @@ use Rattle.rate.specs.declared.units.Ticks.{Ticks}
 use Rattle.rate.specs.Gcra.{gcra}
 use Rattle.table.specs.Request.{queryOf}
 use Rattle.table.specs.Rule.{ruleOf}
-use Rattle.table.specs.Slots.{carries}
 use Rattle.table.specs.Calls.{at}
 use Rattle.table.proofs.Cases.{slot-own, slot-new, slot-none}
 use Rattle.table.proofs.Seek.{found-within}
@@ -27,20 +23,19 @@ enum-known-own : tie.Need-enum-known-own
 enum-known-own c = search needs
 
 mul-t9 : tie.Need-mul-t9
-mul-t9 c =
-    let S = c .before .before .before .before .before .before .args in
-    omega (arith, c .before .before .before .before .before .before .pre, found-within (carries (now (S .ids)) (S .subscriber)) (c .before .before .before .find .ensures) (c .before .own .given .1))
+mul-t9 c = omega (arith, c .before .before .before .before .before .before .pre, found-within _ (c .before .before .before .find .ensures) (c .before .own .given .1))
 
 shared-slice-read-t11 : tie.Need-shared-slice-read-t11
-shared-slice-read-t11 c =
-    let S = c .before .before .before .before .before .before .before .args in
-    omega (arith, c .before .before .before .before .before .before .before .pre, found-within (carries (now (S .ids)) (S .subscriber)) (c .before .before .before .before .find .ensures) (c .before .before .own .given .1))
+shared-slice-read-t11 c = omega (arith, c .before .before .before .before .before .before .before .pre, found-within _ (c .before .before .before .before .find .ensures) (c .before .before .own .given .1))
 
 returns : tie.Need-returns
 unfolding slotOf columns
 returns c =
     let S = c .before .before .before .before .before .before .before .args in
-    sym (slot-own (ruleOf gcra) columns (tableOf (now (S .ids)) (now (S .tats))) (queryOf (S .plan) (S .moment .0) (S .subscriber)) (own-all (now (S .ids)) (now (S .tats)) (c .before .before .before .before .before .before .before .pre) (queryOf (S .plan) (S .moment .0) (S .subscriber)) (c .before .before .before .before .find .ensures) (c .before .before .own .given .1)))
+    let q = queryOf (S .plan) (S .moment .0) (S .subscriber) in
+    let t = tableOf (now (S .ids)) (now (S .tats)) in
+    let found = own-all (now (S .ids)) (now (S .tats)) (c .before .before .before .before .before .before .before .pre) q (c .before .before .before .before .find .ensures) (c .before .before .own .given .1) in
+    sym (slot-own (ruleOf gcra) columns t q found)
 
 enum-told : tie.Need-enum-told
 enum-told c = search needs
@@ -58,7 +53,11 @@ returns-2 : tie.Need-returns-2
 unfolding slotOf
 returns-2 c =
     let S = c .before .before .before .before .before .before .before .before .args in
-    sym (slot-none (ruleOf gcra) columns (tableOf (now (S .ids)) (now (S .tats))) (queryOf (S .plan) (S .moment .0) (S .subscriber)) (own-all (now (S .ids)) (now (S .tats)) (c .before .before .before .before .before .before .before .before .pre) (queryOf (S .plan) (S .moment .0) (S .subscriber)) (c .before .before .before .before .before .find .ensures) (c .before .before .before .enum-told .given .1)) (sym (c .before .before .lowest-free .ensures) ∙ c .enum-told2 .given .1))
+    let q = queryOf (S .plan) (S .moment .0) (S .subscriber) in
+    let t = tableOf (now (S .ids)) (now (S .tats)) in
+    let unknown = own-all (now (S .ids)) (now (S .tats)) (c .before .before .before .before .before .before .before .before .pre) q (c .before .before .before .before .before .find .ensures) (c .before .before .before .enum-told .given .1) in
+    let full = sym (c .before .before .lowest-free .ensures) ∙ c .enum-told2 .given .1 in
+    sym (slot-none (ruleOf gcra) columns t q unknown full)
 
 fresh-requires : tie.Need-fresh-requires
 fresh-requires c κs = search needs
@@ -67,8 +66,11 @@ returns-3 : tie.Need-returns-3
 unfolding slotOf ruleOf
 returns-3 c =
     let S = c .before .before .before .before .before .before .before .before .before .before .args in
-    ap (λ (t : Ticks). at (c .before .before .free .given .0 .0) t) (c .fresh .ensures _ _)
-    ∙ sym (slot-new (ruleOf gcra) columns (tableOf (now (S .ids)) (now (S .tats))) (queryOf (S .plan) (S .moment .0) (S .subscriber)) (own-all (now (S .ids)) (now (S .tats)) (c .before .before .before .before .before .before .before .before .before .before .pre) (queryOf (S .plan) (S .moment .0) (S .subscriber)) (c .before .before .before .before .before .before .before .find .ensures) (c .before .before .before .before .before .enum-told .given .1)) (sym (c .before .before .before .before .lowest-free .ensures) ∙ c .before .before .free .given .1))
+    let q = queryOf (S .plan) (S .moment .0) (S .subscriber) in
+    let t = tableOf (now (S .ids)) (now (S .tats)) in
+    let unknown = own-all (now (S .ids)) (now (S .tats)) (c .before .before .before .before .before .before .before .before .before .before .pre) q (c .before .before .before .before .before .before .before .find .ensures) (c .before .before .before .before .before .enum-told .given .1) in
+    let vacant = sym (c .before .before .before .before .lowest-free .ensures) ∙ c .before .before .free .given .1 in
+    ap (λ (tat : Ticks). at (c .before .before .free .given .0 .0) tat) (c .fresh .ensures _ _) ∙ sym (slot-new (ruleOf gcra) columns t q unknown vacant)
 
 pub slot-for-spec : {M : Type 1} → statement M
 slot-for-spec =

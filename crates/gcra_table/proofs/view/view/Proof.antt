@@ -1,10 +1,6 @@
 -- `gcra_table::view::view` meets its contract: a check that applies, or the own record's report.
 -- Assumes nothing.
 use borrow.Author.Needs.{needs}
-use Rattle.gcra_table.proofs.view.held.Reads as held-reads
-use Rattle.rate.proofs.gcra.report.Reads as report-reads
-use Rattle.table.proofs.check.query.Reads as query-reads
-use Rattle.table.proofs.columns.common.Reads as common-reads
 use mathlib.Core.Path.{ap, _∙_}
 use Prim.Native.Nat.{ℕ}
 use lib.ListN.{length}
@@ -33,7 +29,10 @@ returns : tie.Need-returns
 unfolding columns
 returns c =
     let S = c .before .before .before .before .before .before .before .args in
-    peeks-refused (ruleOf gcra) columns (tableOf (now (S .ids)) (now (S .tats))) (queryOf (S .plan) (S .moment .0) (S .subscriber)) ((c .before .before .before .query .ensures) ∙ ap (λ (n : ℕ). queryCheck (queryOf (S .plan) (S .moment .0) (S .subscriber)) n) (c .before .before .before .before .common .ensures)) (c .before .reason .given .1)
+    let q = queryOf (S .plan) (S .moment .0) (S .subscriber) in
+    let t = tableOf (now (S .ids)) (now (S .tats)) in
+    let says = c .before .before .before .query .ensures ∙ ap (λ (n : ℕ). queryCheck q n) (c .before .before .before .before .common .ensures) in
+    peeks-refused (ruleOf gcra) columns t q says (c .before .reason .given .1)
 
 enum-told : tie.Need-enum-told
 enum-told c = search needs
@@ -41,18 +40,27 @@ enum-told c = search needs
 held-requires : tie.Need-held-requires
 held-requires c κs =
     let S = c .before .before .before .before .before .before .args in
-    asked-equal (queryOf (S .plan) (S .moment .0) (S .subscriber)) (length (now (S .ids))) (length (now (S .tats))) (query-asked (common (length (now (S .ids))) (length (now (S .tats)))) (queryOf (S .plan) (S .moment .0) (S .subscriber)) ((c .before .before .query .ensures) ∙ ap (λ (n : ℕ). queryCheck (queryOf (S .plan) (S .moment .0) (S .subscriber)) n) (c .before .before .before .common .ensures)) (c .enum-told .given .1))
+    let q = queryOf (S .plan) (S .moment .0) (S .subscriber) in
+    let slots = common (length (now (S .ids))) (length (now (S .tats))) in
+    let says = c .before .before .query .ensures ∙ ap (λ (n : ℕ). queryCheck q n) (c .before .before .before .common .ensures) in
+    asked-equal q (length (now (S .ids))) (length (now (S .tats))) (query-asked slots q says (c .enum-told .given .1))
 
 report-requires : tie.Need-report-requires
 report-requires c κs =
     let S = c .before .before .before .before .before .before .before .args in
-    asked-in-force (queryOf (S .plan) (S .moment .0) (S .subscriber)) (common (length (now (S .ids))) (length (now (S .tats)))) (query-asked (common (length (now (S .ids))) (length (now (S .tats)))) (queryOf (S .plan) (S .moment .0) (S .subscriber)) ((c .before .before .before .query .ensures) ∙ ap (λ (n : ℕ). queryCheck (queryOf (S .plan) (S .moment .0) (S .subscriber)) n) (c .before .before .before .before .common .ensures)) (c .before .enum-told .given .1))
+    let q = queryOf (S .plan) (S .moment .0) (S .subscriber) in
+    let slots = common (length (now (S .ids))) (length (now (S .tats))) in
+    let says = c .before .before .before .query .ensures ∙ ap (λ (n : ℕ). queryCheck q n) (c .before .before .before .before .common .ensures) in
+    asked-in-force q slots (query-asked slots q says (c .before .enum-told .given .1))
 
 returns-2 : tie.Need-returns-2
 unfolding columns ruleOf
 returns-2 c =
     let S = c .before .before .before .before .before .before .before .before .args in
-    peeks-reported (ruleOf gcra) columns (tableOf (now (S .ids)) (now (S .tats))) (queryOf (S .plan) (S .moment .0) (S .subscriber)) ((c .before .before .before .before .query .ensures) ∙ ap (λ (n : ℕ). queryCheck (queryOf (S .plan) (S .moment .0) (S .subscriber)) n) (c .before .before .before .before .before .common .ensures)) (c .before .before .enum-told .given .1) (c .before .held .ensures) (c .report .ensures)
+    let q = queryOf (S .plan) (S .moment .0) (S .subscriber) in
+    let t = tableOf (now (S .ids)) (now (S .tats)) in
+    let says = c .before .before .before .before .query .ensures ∙ ap (λ (n : ℕ). queryCheck q n) (c .before .before .before .before .before .common .ensures) in
+    peeks-reported (ruleOf gcra) columns t q says (c .before .before .enum-told .given .1) (c .before .held .ensures) (c .report .ensures)
 
 pub view-spec : {M : Type 1} → statement M
 view-spec =

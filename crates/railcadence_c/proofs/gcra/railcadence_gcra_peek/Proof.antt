@@ -1,9 +1,6 @@
 -- `railcadence_c::gcra::railcadence_gcra_peek` meets its contract: the numbers of the answer.
 -- Assumes nothing.
 use borrow.Author.Needs.{needs}
-use Rattle.gcra_table.proofs.peek.Reads as peek-reads
-use Rattle.railcadence_c.proofs.five.five.Reads as five-reads
-use Rattle.rate.proofs.answer.Answer.to_numbers.Reads as to-numbers-reads
 use mathlib.Core.Path.{ap, _∙_}
 use Rattle.rate.specs.declared.answer.Numbers.{Numbers}
 use Rattle.railcadence_c.specs.Five.{five}

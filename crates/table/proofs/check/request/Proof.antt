@@ -1,7 +1,6 @@
 -- `table::check::request` meets its contract: checks 1 to 4 first, then each return is one of its numbers.
 -- Assumes nothing.
 use borrow.Author.Needs.{needs}
-use Rattle.table.proofs.check.query.Reads as query-reads
 use mathlib.Core.Path.{sym, ap, _∙_}
 use Prim.Native.Nat.{ℕ}
 use lib.Dec.{eqb}
@@ -24,9 +23,10 @@ returns : tie.Need-returns
 unfolding checkNumber
 returns c =
     let S = c .before .before .before .before .args in
-    let told = ap (λ (k : Check). checkNumber k) (c .before .reason .given .1) in
-    sym (query-first (requestOf (S .plan) (S .moment .0) (S .subscriber) (S .cost)) (S .slots) (ap (λ (n : ℕ). eqb n 0) (sym (c .before .before .before .query .ensures) ∙ told) ∙ refuses (c .before .reason .given .0 .0))
-    ∙ sym (c .before .before .before .query .ensures) ∙ told)
+    let r = requestOf (S .plan) (S .moment .0) (S .subscriber) (S .cost) in
+    let failed = sym (c .before .before .before .query .ensures) ∙ ap (λ (k : Check). checkNumber k) (c .before .reason .given .1) in
+    let number = ap (λ (n : ℕ). eqb n 0) failed ∙ refuses (c .before .reason .given .0 .0) in
+    sym (query-first r (S .slots) number ∙ failed)
 
 enum-told : tie.Need-enum-told
 enum-told c = search needs
@@ -35,19 +35,27 @@ returns-2 : tie.Need-returns-2
 unfolding checkNumber
 returns-2 c =
     let S = c .before .before .before .before .args in
-    zero-cost ∙ sym (number-5 (requestOf (S .plan) (S .moment .0) (S .subscriber) (S .cost)) (S .slots) (sym (c .before .before .before .query .ensures) ∙ ap (λ (k : Check). checkNumber k) (c .before .enum-told .given .1)) (eq-eqb (S .cost) 0 (c .if1 .taken)))
+    let r = requestOf (S .plan) (S .moment .0) (S .subscriber) (S .cost) in
+    let passed = sym (c .before .before .before .query .ensures) ∙ ap (λ (k : Check). checkNumber k) (c .before .enum-told .given .1) in
+    zero-cost ∙ sym (number-5 r (S .slots) passed (eq-eqb (S .cost) 0 (c .if1 .taken)))
 
 returns-3 : tie.Need-returns-3
 unfolding checkNumber
 returns-3 c =
     let S = c .before .before .before .before .before .before .args in
-    cost-above-burst ∙ sym (number-6 (requestOf (S .plan) (S .moment .0) (S .subscriber) (S .cost)) (S .slots) (sym (c .before .before .before .before .before .query .ensures) ∙ ap (λ (k : Check). checkNumber k) (c .before .before .before .enum-told .given .1)) (ne-eqb (S .cost) 0 (c .before .before .if1 .left)) (lt-ltb (S .plan .burst) (S .cost) (c .if2 .taken)))
+    let r = requestOf (S .plan) (S .moment .0) (S .subscriber) (S .cost) in
+    let passed = sym (c .before .before .before .before .before .query .ensures) ∙ ap (λ (k : Check). checkNumber k) (c .before .before .before .enum-told .given .1) in
+    let cost = ne-eqb (S .cost) 0 (c .before .before .if1 .left) in
+    cost-above-burst ∙ sym (number-6 r (S .slots) passed cost (lt-ltb (S .plan .burst) (S .cost) (c .if2 .taken)))
 
 returns-4 : tie.Need-returns-4
 unfolding checkNumber
 returns-4 c =
     let S = c .before .before .before .before .before .before .args in
-    sym (passes (requestOf (S .plan) (S .moment .0) (S .subscriber) (S .cost)) (S .slots) (sym (c .before .before .before .before .before .query .ensures) ∙ ap (λ (k : Check). checkNumber k) (c .before .before .before .enum-told .given .1)) (ne-eqb (S .cost) 0 (c .before .before .if1 .left)) (le-ltb (S .plan .burst) (S .cost) (c .if2 .left)))
+    let r = requestOf (S .plan) (S .moment .0) (S .subscriber) (S .cost) in
+    let passed = sym (c .before .before .before .before .before .query .ensures) ∙ ap (λ (k : Check). checkNumber k) (c .before .before .before .enum-told .given .1) in
+    let cost = ne-eqb (S .cost) 0 (c .before .before .if1 .left) in
+    sym (passes r (S .slots) passed cost (le-ltb (S .plan .burst) (S .cost) (c .if2 .left)))
 
 pub request-spec : {M : Type 1} → statement M
 request-spec =
