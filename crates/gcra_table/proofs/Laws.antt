@@ -1,19 +1,24 @@
 -- The laws of the calls, of the GCRA engine: each is the table's law, at GCRA's rule and columns.
 -- Assumes nothing.
 use mathlib.Core.Path.{_≡_}
-use mathlib.Core.Bool.{false, _&&_, _||_}
+use mathlib.Core.Bool.{true, false, _&&_, _||_}
 use Prim.Native.Nat.{ℕ}
 use lib.Dec.{eqb}
 use lib.ListN.{getD}
+use Rattle.rate.specs.Decision.{bare}
+use Rattle.rate.specs.Engine.{judge}
 use Rattle.rate.specs.Gcra.{gcra}
 use Rattle.rate.proofs.GcraLaws.{gcra-lawful}
 use Rattle.table.specs.Request.{Query, Request}
+use Rattle.table.specs.Calls.{held, peekVerdict}
+use Rattle.table.specs.Checks.{slotsOk, queryCheck, guard}
 use Rattle.table.specs.Rule.{ruleOf}
 use Rattle.table.specs.Slots.{carries, vacant}
 use Rattle.table.proofs.Checks.{Payable}
 use Rattle.table.proofs.Cleared as cleared
 use Rattle.table.proofs.Numbers as numbers
 use Rattle.table.proofs.Peek as looks
+use Rattle.table.proofs.PeekNumbers as peeks
 use Rattle.table.proofs.Placing as placing
 use Rattle.table.proofs.Wait as wait
 use Rattle.table.proofs.Writes as writes
@@ -68,6 +73,28 @@ module _ (r : Request) (t : Table) where
 
   pub peek-of-denied : acquire r t .answer .number ≡ 8 → looks.SameReport gcra columns r t
   peek-of-denied = looks.peek-of-denied gcra-lawful columns r t
+
+module _ (q : Query) (t : Table) where
+  -- why a peek gets its number
+  abbrev pub PeekGround : ℕ → Type 0
+  PeekGround = peeks.PeekGround gcra columns q t
+
+  pub peek-exactly-when :
+      (n : ℕ) → (peek q t .answer .number ≡ n → PeekGround n) × (PeekGround n → peek q t .answer .number ≡ n)
+  peek-exactly-when n = peeks.peek-exactly-when gcra columns q t gcra-lawful n
+
+  -- a peek is answered as an acquire of cost 0 is judged
+  pub peek-is-free-acquire :
+      peekVerdict (ruleOf gcra) columns q t
+      ≡ guard bare (queryCheck q (columns .slots t)) (judge gcra (q .plan) (q .moment) (held (ruleOf gcra) columns q t) 0 .verdict)
+  peek-is-free-acquire = looks.peek-is-free-acquire gcra-lawful columns q t
+
+-- a clear gets 0 exactly if the columns are a table
+pub clear-0 :
+    (t : Table) →
+    (clear t .answer .number ≡ 0 → slotsOk (columns .slots t) ≡ true)
+    × (slotsOk (columns .slots t) ≡ true → clear t .answer .number ≡ 0)
+clear-0 = peeks.clear-0 columns
 
 -- a slot is free if it is empty or owes nothing
 pub vacant-owes-nothing :

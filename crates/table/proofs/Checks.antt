@@ -1,11 +1,12 @@
 -- The first check that applies answers: a law for each number, and what it means that all have passed.
 -- Assumes nothing.
-use mathlib.Core.Path.{_≡_, refl, _∙_}
-use mathlib.Core.Bool.{Bool, true, false}
+use mathlib.Core.Path.{_≡_, refl, sym, _∙_}
+use mathlib.Core.Logic.{_⊎_, inl, inr}
+use mathlib.Core.Bool.{Bool, true, false, false≢true}
 use Prim.Native.Nat.{ℕ, zero, suc, _≤_}
 use native.Mathlib.Omega.{arith}
 use lib.Dec.{eqb, ltb}
-use borrow.Author.Tests.{leb-true, ne-eqb}
+use borrow.Author.Tests.{leb-true, eq-eqb, ne-eqb}
 use Rattle.rate.specs.Grains.{planOk, onClock, InForce}
 use Rattle.rate.proofs.Limits.{in-force}
 use Rattle.rate.proofs.Tests.{both}
@@ -41,6 +42,27 @@ module _ (q : Query) (slots : ℕ) where
   unfolding queryCheck
   number-4 plan table moment subscriber = rw (plan, table, moment, subscriber)
 
+  -- why one of checks 1 to 4 stops a call: it applies, and none before it
+  pub data Stopped : ℕ → Type 0 where
+    bad-plan : planOk (q .plan) ≡ false → Stopped 1
+    bad-table : planOk (q .plan) ≡ true → slotsOk slots ≡ false → Stopped 2
+    late-moment : planOk (q .plan) ≡ true → slotsOk slots ≡ true → onClock (q .moment) ≡ false → Stopped 3
+    no-subscriber :
+        planOk (q .plan) ≡ true → slotsOk slots ≡ true → onClock (q .moment) ≡ true → eqb (q .subscriber) 0 ≡ true →
+        Stopped 4
+
+  pub stops : {n : ℕ} → Stopped n → queryCheck q slots ≡ n
+  stops (bad-plan a) = number-1 a
+  stops (bad-table a b) = number-2 a b
+  stops (late-moment a b m) = number-3 a b m
+  stops (no-subscriber a b m s) = number-4 a b m s
+
+  pub stops-not-0 : {n : ℕ} → Stopped n → eqb n 0 ≡ false
+  stops-not-0 (bad-plan a) = refl
+  stops-not-0 (bad-table a b) = refl
+  stops-not-0 (late-moment a b m) = refl
+  stops-not-0 (no-subscriber a b m s) = refl
+
 -- checks 1 to 4 have passed
 pub record Asked (q : Query) (slots : ℕ) : Type 0 where
   pub plan : planOk (q .plan) ≡ true
@@ -59,17 +81,24 @@ module _ (q : Query) (slots : ℕ) where
   unfolding queryCheck
   asks a = rw (a .plan, a .table, a .moment, a .subscriber)
 
-  pub asked : queryCheck q slots ≡ 0 → Asked q slots
-  asked e = by (planOk (q .plan)) refl (slotsOk slots) refl (onClock (q .moment)) refl (eqb (q .subscriber) 0) refl
+  pub asked-or-stopped : Asked q slots ⊎ ((n : ℕ) × Stopped q slots n)
+  asked-or-stopped = by (planOk (q .plan)) refl (slotsOk slots) refl (onClock (q .moment)) refl (eqb (q .subscriber) 0) refl
     where
       by :
           (p : Bool) → planOk (q .plan) ≡ p → (t : Bool) → slotsOk slots ≡ t → (m : Bool) → onClock (q .moment) ≡ m →
-          (s : Bool) → eqb (q .subscriber) 0 ≡ s → Asked q slots
-      by true ep true et true em false es = record { plan = ep; table = et; moment = em; subscriber = es }
-      by false ep t et m em s es = absurd (omega (arith, number-1 q slots ep))
-      by true ep false et m em s es = absurd (omega (arith, number-2 q slots ep et))
-      by true ep true et false em s es = absurd (omega (arith, number-3 q slots ep et em))
-      by true ep true et true em true es = absurd (omega (arith, number-4 q slots ep et em es))
+          (s : Bool) → eqb (q .subscriber) 0 ≡ s → Asked q slots ⊎ ((n : ℕ) × Stopped q slots n)
+      by true ep true et true em false es = inl (record { plan = ep; table = et; moment = em; subscriber = es })
+      by false ep t et m em s es = inr (1, bad-plan ep)
+      by true ep false et m em s es = inr (2, bad-table ep et)
+      by true ep true et false em s es = inr (3, late-moment ep et em)
+      by true ep true et true em true es = inr (4, no-subscriber ep et em es)
+
+  pub asked : queryCheck q slots ≡ 0 → Asked q slots
+  asked e = by asked-or-stopped
+    where
+      by : Asked q slots ⊎ ((n : ℕ) × Stopped q slots n) → Asked q slots
+      by (inl a) = a
+      by (inr s) = absurd (false≢true (sym (stops-not-0 q slots (s .1)) ∙ eq-eqb _ _ (sym (stops q slots (s .1)) ∙ e)))
 
   -- the plan and the moment are those that the rules of reckoning require
   pub asked-in-force : Asked q slots → InForce (q .plan) (q .moment)

@@ -13,3 +13,4 @@ pub mod Writes
 pub mod Wait
 pub mod Cleared
 pub mod Peek
+pub mod PeekNumbers

@@ -1,36 +1,28 @@
 -- Exactly when each number is given: its check applies and none before it.
 -- Assumes nothing.
 use mathlib.Core.Path.{_≡_, refl, sym, ap, subst, _∙_}
+use mathlib.Core.Logic.{_⊎_, inl, inr}
 use mathlib.Core.Bool.{Bool, true, false}
-use Prim.Native.Nat.{ℕ, suc}
-use native.Mathlib.Omega.{arith}
+use Prim.Native.Nat.{ℕ}
 use lib.Dec.{eqb, ltb}
-use borrow.Author.Tests.{ne-eqb}
 use Rattle.rate.specs.Answer.{answered}
 use Rattle.rate.specs.Decision.{Verdict, bare}
 use Rattle.rate.specs.Engine.{Engine}
-use Rattle.rate.specs.Grains.{planOk, onClock}
 use Rattle.rate.proofs.Answers.{answered-number, bare-number, admitted-number, throttled-number}
 use Rattle.rate.proofs.Lawful.{Lawful}
 use Rattle.table.specs.Request.{Request}
-use Rattle.table.specs.Checks.{slotsOk, queryCheck, requestCheck}
+use Rattle.table.specs.Checks.{requestCheck}
 use Rattle.table.specs.Rule.{ruleOf}
 use Rattle.table.specs.Slots.{Columns}
 use Rattle.table.specs.Calls.{Step, slotFor, acquire}
-use Rattle.table.proofs.Checks.{Asked, Payable, asks, query-first, number-1, number-2, number-3, number-4, number-5, number-6}
+use Rattle.table.proofs.Checks.{Asked, Payable, Stopped, stops, stops-not-0, asked-or-stopped, asks, query-first, number-5, number-6}
 use Rattle.table.proofs.Outcomes.{refused, full, corrupt, waits, admits, admits-new, soundAt, admitsAt}
 use Rattle.table.proofs.Placing.{Own, Unknown, Vacant, Full, Placed, in-own, in-free, nowhere, placed}
 
 module _ {C R : Type 0} (E : Engine R) (K : Columns C R) (r : Request) (c : C) where
   -- why an ask gets its number
   pub data Ground : ℕ → Type 0 where
-    bad-plan : planOk (r .query .plan) ≡ false → Ground 1
-    bad-table : planOk (r .query .plan) ≡ true → slotsOk (K .slots c) ≡ false → Ground 2
-    late-moment :
-        planOk (r .query .plan) ≡ true → slotsOk (K .slots c) ≡ true → onClock (r .query .moment) ≡ false → Ground 3
-    no-subscriber :
-        planOk (r .query .plan) ≡ true → slotsOk (K .slots c) ≡ true → onClock (r .query .moment) ≡ true →
-        eqb (r .query .subscriber) 0 ≡ true → Ground 4
+    stopped : {n : ℕ} → Stopped (r .query) (K .slots c) n → Ground n
     zero-cost : Asked (r .query) (K .slots c) → eqb (r .cost) 0 ≡ true → Ground 5
     cost-above-burst :
         Asked (r .query) (K .slots c) → eqb (r .cost) 0 ≡ false → ltb (r .query .plan .burst) (r .cost) ≡ true → Ground 6
@@ -51,21 +43,21 @@ module _ {C R : Type 0} (E : Engine R) (K : Columns C R) (r : Request) (c : C) w
       acquire (ruleOf E) K r c .answer .number ≡ n
   numbered v e n = ap (λ (s : Step C). s .answer .number) e ∙ answered-number (r .query .subscriber) v ∙ n
 
-  checked : (k : ℕ) → requestCheck r (K .slots c) ≡ suc k → acquire (ruleOf E) K r c .answer .number ≡ suc k
-  checked k e =
-      numbered (bare (requestCheck r (K .slots c))) (refused (ruleOf E) K r c (ne-eqb (requestCheck r (K .slots c)) 0 (λ z. omega arith)))
+  checked : {n : ℕ} → requestCheck r (K .slots c) ≡ n → eqb n 0 ≡ false → acquire (ruleOf E) K r c .answer .number ≡ n
+  checked e h =
+      numbered (bare (requestCheck r (K .slots c))) (refused (ruleOf E) K r c (ap (λ (n : ℕ). eqb n 0) e ∙ h))
       (bare-number (requestCheck r (K .slots c)) ∙ e)
 
-  queried : (k : ℕ) → queryCheck (r .query) (K .slots c) ≡ suc k → acquire (ruleOf E) K r c .answer .number ≡ suc k
-  queried k e = checked k (query-first r (K .slots c) (ne-eqb (queryCheck (r .query) (K .slots c)) 0 (λ z. omega arith)) ∙ e)
+  queried : {n : ℕ} → Stopped (r .query) (K .slots c) n → acquire (ruleOf E) K r c .answer .number ≡ n
+  queried s =
+      let number = stops (r .query) (K .slots c) s in
+      let some = stops-not-0 (r .query) (K .slots c) s in
+      checked (query-first r (K .slots c) (ap (λ (n : ℕ). eqb n 0) number ∙ some) ∙ number) some
 
   pub decides : Lawful E → {n : ℕ} → Ground n → acquire (ruleOf E) K r c .answer .number ≡ n
-  decides L (bad-plan a) = queried 0 (number-1 (r .query) (K .slots c) a)
-  decides L (bad-table a b) = queried 1 (number-2 (r .query) (K .slots c) a b)
-  decides L (late-moment a b m) = queried 2 (number-3 (r .query) (K .slots c) a b m)
-  decides L (no-subscriber a b m s) = queried 3 (number-4 (r .query) (K .slots c) a b m s)
-  decides L (zero-cost a z) = checked 4 (number-5 r (K .slots c) (asks (r .query) (K .slots c) a) z)
-  decides L (cost-above-burst a z b) = checked 5 (number-6 r (K .slots c) (asks (r .query) (K .slots c) a) z b)
+  decides L (stopped s) = queried s
+  decides L (zero-cost a z) = checked (number-5 r (K .slots c) (asks (r .query) (K .slots c) a) z) refl
+  decides L (cost-above-burst a z b) = checked (number-6 r (K .slots c) (asks (r .query) (K .slots c) a) z b) refl
   decides L (corrupt-record p i o s) = numbered _ (corrupt E K r c p i o s) (bare-number 7)
   decides L (throttled p i o s a) = numbered _ (waits E K r c p i o s a) (throttled-number _ _ _ _)
   decides L (table-full p u f) = numbered _ (full (ruleOf E) K r c p u f) (bare-number 9)
@@ -95,17 +87,11 @@ module _ {C R : Type 0} (E : Engine R) (K : Columns C R) (r : Request) (c : C) w
       by false ez false eb = in-slot (record { asked = a; cost = ez; burst = eb }) (placed (ruleOf E) K (r .query) c)
 
   a-ground : (n : ℕ) × Ground n
-  a-ground =
-      by (planOk (r .query .plan)) refl (slotsOk (K .slots c)) refl (onClock (r .query .moment)) refl (eqb (r .query .subscriber) 0) refl
+  a-ground = by (asked-or-stopped (r .query) (K .slots c))
     where
-      by :
-          (p : Bool) → planOk (r .query .plan) ≡ p → (t : Bool) → slotsOk (K .slots c) ≡ t →
-          (m : Bool) → onClock (r .query .moment) ≡ m → (s : Bool) → eqb (r .query .subscriber) 0 ≡ s → (n : ℕ) × Ground n
-      by false ep t et m em s es = (1, bad-plan ep)
-      by true ep false et m em s es = (2, bad-table ep et)
-      by true ep true et false em s es = (3, late-moment ep et em)
-      by true ep true et true em true es = (4, no-subscriber ep et em es)
-      by true ep true et true em false es = paid (record { plan = ep; table = et; moment = em; subscriber = es })
+      by : Asked (r .query) (K .slots c) ⊎ ((n : ℕ) × Stopped (r .query) (K .slots c) n) → (n : ℕ) × Ground n
+      by (inl a) = paid a
+      by (inr s) = (s .0, stopped (s .1))
 
   pub grounds : Lawful E → Ground (acquire (ruleOf E) K r c .answer .number)
   grounds L = let g = a-ground in subst (λ (n : ℕ). Ground n) (sym (decides L (g .1))) (g .1)
