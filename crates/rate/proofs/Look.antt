@@ -3,7 +3,7 @@
 use mathlib.Core.Path.{_≡_, refl, sym, ap, _∙_}
 use mathlib.Core.Bool.{Bool, true, false}
 use Prim.Native.Nat.{ℕ, _+_}
-use native.Mathlib.Nat.{mul-zero, add-zero}
+use native.Mathlib.Nat.{add-zero}
 use native.Mathlib.Omega.{arith}
 use borrow.Author.Tests.{le-leb}
 use Rattle.rate.specs.declared.plan.Plan.{Plan}
@@ -12,10 +12,7 @@ use Rattle.rate.specs.Decision.{admissible, reported, admitted, throttle
 use Rattle.rate.specs.Engine.{Engine, judge, report}
 use Rattle.rate.proofs.Cases.{judge-corrupt, judge-admitted, report-corrupt, report-sound}
 use Rattle.rate.proofs.Lawful.{Lawful}
-
-price-none : (p : Plan) → price p 0 ≡ 0
-unfolding price
-price-none p = mul-zero (p .period)
+use Rattle.rate.proofs.Products.{price-none}
 
 -- nothing costs nothing
 admitted-none : (p : Plan) (at backlog : ℕ) → admitted p at backlog 0 ≡ reported p at backlog

@@ -2,10 +2,10 @@
 -- Assumes nothing.
 use mathlib.Core.Path.{_≡_, sym, ap, _∙_}
 use Prim.Native.Nat.{ℕ, _+_, _-_, _*_, _/_, _%_, _^_, _≤_, _<_}
-use native.Mathlib.Nat.{add-mul, mul-le-mul, mul-right-comm, sub-self, zero-mul, div-add-mod'}
+use native.Mathlib.Nat.{add-mul, mul-add, mul-zero, mul-le-mul, mul-right-comm, sub-self, zero-mul, div-add-mod'}
 use native.Mathlib.Omega.{arith}
 use Rattle.rate.specs.declared.plan.Plan.{Plan}
-use Rattle.rate.specs.Grains.{ticksIn}
+use Rattle.rate.specs.Grains.{ticksIn, price}
 
 -- ticks of a time that is the sum of two
 pub ticks-split : (p : Plan) (l k : ℕ) → l ≤ k → ticksIn p k ≡ ticksIn p l + ticksIn p (k - l)
@@ -16,6 +16,15 @@ ticks-split p l k h = let e : k ≡ l + (k - l) = omega arith in rw (← add-mul
 pub ticks-none : (p : Plan) (at : ℕ) → ticksIn p (at - at) ≡ 0
 unfolding ticksIn
 ticks-none p at = simp (sub-self, zero-mul)
+
+-- what costs come to together, and what nothing costs
+pub price-add : (p : Plan) (a b : ℕ) → price p (a + b) ≡ price p a + price p b
+unfolding price
+price-add p a b = mul-add (p .period) a b
+
+pub price-none : (p : Plan) → price p 0 ≡ 0
+unfolding price
+price-none p = mul-zero (p .period)
 
 -- a product of two numbers of 32 bits fits 64
 pub product-fits : (a b : ℕ) → a < 2 ^ 32 → b < 2 ^ 32 → a * b < 2 ^ 64
