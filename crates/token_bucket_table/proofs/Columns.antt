@@ -1,0 +1,59 @@
+-- The columns of the token bucket engine keep what is written.
+-- Assumes nothing.
+use mathlib.Core.Path.{_≡_, refl, ap₂}
+use Prim.Native.Nat.{ℕ, _≤_, _<_}
+use native.Mathlib.Omega.{arith}
+use lib.ListN.{length, length-set, length-replicate}
+use lib.Seq.{getD-set-same, getD-set-other}
+use Rattle.rate.specs.declared.token_bucket.Bucket.{Bucket}
+use Rattle.table.specs.Slots.{common}
+use Rattle.table.proofs.Slots.{common-equal, common-same}
+use Rattle.table.proofs.Stored.{Stored}
+use Rattle.token_bucket_table.specs.Table.{Table, columns}
+
+-- columns that are a table are equally long
+pub record Equal (t : Table) : Type 0 where
+  pub ids : length (t .ids) ≡ columns .slots t
+  pub levels : length (t .levels) ≡ columns .slots t
+  pub lasts : length (t .lasts) ≡ columns .slots t
+
+pub equal : (t : Table) → 1 ≤ columns .slots t → Equal t
+unfolding columns
+equal t h =
+    let first = common (length (t .ids)) (length (t .levels)) in
+    let outer : first ≡ length (t .lasts) = common-equal first (length (t .lasts)) h in
+    let all : columns .slots t ≡ first = common-same first (length (t .lasts)) outer in
+    let inner : length (t .ids) ≡ length (t .levels) = common-equal (length (t .ids)) (length (t .levels)) (omega arith) in
+    let both : first ≡ length (t .ids) = common-same (length (t .ids)) (length (t .levels)) inner in
+    record { ids = omega arith; levels = omega arith; lasts = omega arith }
+
+row-same :
+    (t : Table) (i subscriber : ℕ) (b : Bucket) → i < columns .slots t → columns .row (columns .put t i subscriber b) i ≡ b
+unfolding columns
+row-same t i subscriber b h =
+    let e = equal t (omega arith) in
+    let level = getD-set-same (t .levels) i (b .level .0) 0 (omega (arith, e .levels)) in
+    let last = getD-set-same (t .lasts) i (b .last .0) 0 (omega (arith, e .lasts)) in
+    λ k. record { level = record { 0 = level k }; last = record { 0 = last k } }
+
+three : (a b c a′ b′ c′ : ℕ) → a ≡ a′ → b ≡ b′ → c ≡ c′ → common (common a b) c ≡ common (common a′ b′) c′
+three a b c a′ b′ c′ ea eb ec = ap₂ (λ (x y : ℕ). common x y) (ap₂ (λ (x y : ℕ). common x y) ea eb) ec
+
+pub token-bucket-stored : Stored columns
+unfolding columns
+token-bucket-stored =
+    record {
+      ids-length = λ t h. equal t h .ids;
+      slots-put = λ t i subscriber b.
+          three _ _ _ _ _ _ (length-set (t .ids) i subscriber) (length-set (t .levels) i (b .level .0)) (length-set (t .lasts) i (b .last .0));
+      ids-put = λ t i subscriber b. refl;
+      row-same = row-same;
+      row-other = λ t i j subscriber b h k.
+          record {
+            level = record { 0 = getD-set-other (t .levels) i j (b .level .0) 0 h k };
+            last = record { 0 = getD-set-other (t .lasts) i j (b .last .0) 0 h k };
+          };
+      slots-zeros = λ t.
+          three _ _ _ _ _ _ (length-replicate (length (t .ids)) 0) (length-replicate (length (t .levels)) 0) (length-replicate (length (t .lasts)) 0);
+      ids-zeros = λ t. refl;
+    }
