@@ -31,11 +31,11 @@ pub gcra-stored : Stored columns
 unfolding columns
 gcra-stored =
     record {
+      ids-zeros = λ t. refl;
       ids-length = ids-length;
       slots-put = λ t i subscriber tat. ap₂ (λ (a b : ℕ). common a b) (length-set (t .ids) i subscriber) (length-set (t .tats) i (tat .0));
       ids-put = λ t i subscriber tat. refl;
       row-same = row-same;
       row-other = λ t i j subscriber tat h k. record { 0 = getD-set-other (t .tats) i j (tat .0) 0 h k };
       slots-zeros = λ t. ap₂ (λ (a b : ℕ). common a b) (length-replicate (length (t .ids)) 0) (length-replicate (length (t .tats)) 0);
-      ids-zeros = λ t. refl;
     }

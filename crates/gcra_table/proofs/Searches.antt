@@ -1,6 +1,6 @@
 -- The searches of equal columns go over all of them.
 -- Assumes nothing.
-use mathlib.Core.Path.{_≡_, sym, ap, _∙_}
+use mathlib.Core.Path.{_≡_}
 use mathlib.Core.List.{List}
 use Prim.Native.Nat.{ℕ}
 use lib.ListN.{length}
@@ -9,19 +9,20 @@ use Rattle.table.specs.declared.search.Place.{Place}
 use Rattle.table.specs.Request.{Query}
 use Rattle.table.specs.Rule.{ruleOf}
 use Rattle.table.specs.Slots.{seek, carries, own, vacant, lowestFree}
+use Rattle.table.proofs.Judging.{own-found, free-found}
 use Rattle.table.proofs.Slots.{common-same}
 use Rattle.gcra_table.specs.Table.{tableOf, columns}
 
+all-slots : (ids tats : List ℕ) → length ids ≡ length tats → columns .slots (tableOf ids tats) ≡ length ids
+unfolding columns
+all-slots ids tats equal = common-same (length ids) (length tats) equal
+
 module _ (ids tats : List ℕ) (equal : length ids ≡ length tats) (q : Query) {p p′ : Place} where
   pub own-all : p ≡ seek (carries ids (q .subscriber)) (length ids) → p ≡ p′ → own columns q (tableOf ids tats) ≡ p′
-  unfolding own columns
-  own-all says e =
-      ap (λ (n : ℕ). seek (carries ids (q .subscriber)) n) (common-same (length ids) (length tats) equal) ∙ sym says ∙ e
+  unfolding columns
+  own-all = own-found columns (tableOf ids tats) q (all-slots ids tats equal)
 
   pub free-all :
       p ≡ seek (vacant (ruleOf gcra) columns q (tableOf ids tats)) (length ids) → p ≡ p′ →
       lowestFree (ruleOf gcra) columns q (tableOf ids tats) ≡ p′
-  unfolding lowestFree columns
-  free-all says e =
-      ap (λ (n : ℕ). seek (vacant (ruleOf gcra) columns q (tableOf ids tats)) n) (common-same (length ids) (length tats) equal)
-      ∙ sym says ∙ e
+  free-all = free-found columns (tableOf ids tats) q (all-slots ids tats equal) (ruleOf gcra)

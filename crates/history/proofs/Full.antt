@@ -15,13 +15,14 @@ use Rattle.rate.proofs.Lawful.{Lawful}
 use Rattle.rate.proofs.Tests.{both}
 use Rattle.table.specs.Request.{queryOf}
 use Rattle.table.specs.Rule.{ruleOf}
-use Rattle.table.specs.Slots.{Columns, carries}
+use Rattle.table.specs.Slots.{Columns}
 use Rattle.table.proofs.Placing.{Own, Unknown, Vacant, Full, vacant-owes-nothing}
+use Rattle.table.proofs.Slots.{carried, not-carried, carries-other}
 use Rattle.table.proofs.Stored.{Stored}
 use Rattle.history.specs.History.{Entry, member, names, keep, owed, owes, debtors}
 use Rattle.history.proofs.Columns.{somebody}
 use Rattle.history.proofs.Counting.{apart-distinct, apart-within, names-distinct, same-length, keep-member, kept, all-kept, keeps-all}
-use Rattle.history.proofs.Invariant.{Related, idAt, ids-length, nobody-is-0}
+use Rattle.history.proofs.Invariant.{Related, idAt, ids-length, nobody-is-0, somebody-not-0}
 use Rattle.history.proofs.Owing.{owed-unnamed}
 
 or-cases : (a b : Bool) → (a || b) ≡ true → (a ≡ false → b ≡ true)
@@ -39,10 +40,6 @@ positive-of (suc x) n = omega arith
 nand : (a b : Bool) → (a && b) ≡ false → a ≡ true → b ≡ false
 nand a b e t = ap (λ (x : Bool). x && b) (sym t) ∙ e
 
-somebody-not-empty : (x : ℕ) → somebody x ≡ true → eqb x 0 ≡ false
-unfolding somebody
-somebody-not-empty x s = not-true _ s
-
 pub not-empty-somebody : (x : ℕ) → eqb x 0 ≡ false → somebody x ≡ true
 unfolding somebody
 not-empty-somebody x e = ap (λ (t : Bool). not t) e
@@ -51,9 +48,8 @@ not-empty-somebody x e = ap (λ (t : Bool). not t) e
 pub vacated :
     {C R : Type 0} {E : Engine R} → Lawful E → (K : Columns C R) (p : Plan) (at : ℕ) (c : C) (who i : ℕ) →
     Vacant (ruleOf E) K (queryOf p at who) c i → somebody (idAt K c i) ≡ true → E .backlog p at (K .row c i) ≡ 0
-unfolding carries
 vacated {E = E} L K p at c who i f s =
-    let owing = or-cases _ _ (sym (vacant-owes-nothing L K (queryOf p at who) c i) ∙ f .passes) (somebody-not-empty (idAt K c i) s) in
+    let owing = or-cases _ _ (sym (vacant-owes-nothing L K (queryOf p at who) c i) ∙ f .passes) (carries-other (K .ids c) 0 i (somebody-not-0 (idAt K c i) s)) in
     eqb-true _ _ (both (E .sound p at (K .row c i)) (eqb (E .backlog p at (K .row c i)) 0) owing .1)
 
 -- another subscriber that owes
@@ -118,12 +114,10 @@ module _
 
   -- with a slot of its own it is not full
   pub not-full-own : (i : ℕ) → Own K (queryOf p at who) c i → debtors p at who h ≡ n → ⊥
-  unfolding carries
-  not-full-own i o e = every-slot e i (omega (arith, o .within, v .slots)) .other (eqb-true _ _ (o .passes))
+  not-full-own i o e = every-slot e i (omega (arith, o .within, v .slots)) .other (carried (K .ids c) who i (o .passes))
 
   -- with a free slot it is not full
   pub not-full-free : (i : ℕ) → Vacant (ruleOf E) K (queryOf p at who) c i → debtors p at who h ≡ n → ⊥
-  unfolding carries
   not-full-free i f e =
       let w : i < n = omega (arith, f .within, v .slots) in
       let d = every-slot e i w in
@@ -133,7 +127,6 @@ module _
 
   -- without either it is
   pub full : Unknown K (queryOf p at who) c → Full (ruleOf E) K (queryOf p at who) c → debtors p at who h ≡ n
-  unfolding carries
   full u f =
       counted ∙ keeps-all (owes p at who h) (K .ids c) (λ i w. is-debtor p at who h (idAt K c i) (owing i (omega (arith, ids-length L K S p n at c h v))))
       ∙ ids-length L K S p n at c h v
@@ -141,9 +134,9 @@ module _
       owing : (i : ℕ) → i < n → Debtor p at who h (idAt K c i)
       owing i w =
           let taken = nor _ _ (sym (vacant-owes-nothing L K (queryOf p at who) c i) ∙ f i (omega (arith, v .slots))) in
-          let s = not-empty-somebody (idAt K c i) (taken .0) in
+          let s = not-empty-somebody (idAt K c i) (ne-eqb _ _ (not-carried (K .ids c) 0 i (taken .0))) in
           let some : E .backlog p at (K .row c i) ≡ 0 → ⊥ = eqb-false _ _ (nand _ _ (taken .1) (v .sound i w s)) in
           record {
-            other = eqb-false _ _ (u i (omega (arith, v .slots)));
+            other = not-carried (K .ids c) who i (u i (omega (arith, v .slots)));
             positive = omega (arith, v .agree i w s, positive-of (E .backlog p at (K .row c i)) some);
           }

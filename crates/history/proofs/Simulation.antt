@@ -8,7 +8,7 @@ use mathlib.Core.List.{List, [], _∷_, _++_}
 use Prim.Native.Nat.{ℕ, zero, suc, _+_, _≤_, _<_}
 use native.Mathlib.Omega.{arith}
 use lib.Dec.{eqb}
-use borrow.Author.Tests.{eq-eqb, ne-eqb, eqb-true, eqb-false, ltb-false}
+use borrow.Author.Tests.{eq-eqb, ne-eqb, ltb-false}
 use Rattle.rate.specs.declared.answer.Numbers.{Numbers}
 use Rattle.rate.specs.declared.plan.Plan.{Plan}
 use Rattle.rate.specs.Answer.{answered}
@@ -22,14 +22,15 @@ use Rattle.rate.proofs.Lawful.{Lawful}
 use Rattle.table.specs.Request.{Request, queryOf, requestOf}
 use Rattle.table.specs.Checks.{slotsOk, queryCheck, requestCheck}
 use Rattle.table.specs.Rule.{ruleOf}
-use Rattle.table.specs.Slots.{Columns, carries}
+use Rattle.table.specs.Slots.{Columns}
 use Rattle.table.specs.Calls as calls
 use Rattle.table.specs.Calls.{Step, slotFor}
-use Rattle.table.proofs.Cases.{clear-done, peek-refused}
+use Rattle.table.proofs.Cases.{clear-done, peek-answers, peek-keeps, peek-refused}
 use Rattle.table.proofs.Checks.{Asked, asked, Payable, payable, pays, guard-0, guard-not-0}
 use Rattle.table.proofs.Outcomes as outcomes
 use Rattle.table.proofs.Peek.{peek-own, peek-unknown}
 use Rattle.table.proofs.Placing.{Own, Unknown, Vacant, Placed, in-own, in-free, nowhere, placed}
+use Rattle.table.proofs.Slots.{carried, not-carried}
 use Rattle.table.proofs.Stored.{Stored}
 use Rattle.history.specs.History.{Entry, member, owed, callerDebt, otherDebtors, entryOf, says, decide}
 use Rattle.history.specs.History as book
@@ -93,13 +94,12 @@ module _ {C R : Type 0} {E : Engine R} (L : Lawful E) (K : Columns C R) (S : Sto
 
     -- a subscriber without a slot owes nothing
     unknown-owes-nothing : Unknown K (queryOf p at who) c → member who (K .ids c) ≡ false
-    unfolding carries
     unknown-owes-nothing u = by (member who (K .ids c)) refl
       where
         by : (t : Bool) → member who (K .ids c) ≡ t → member who (K .ids c) ≡ false
         by true t =
             let s = member-place who (K .ids c) t in
-            absurd (eqb-false _ _ (u (s .0) (omega (arith, s .1 .0, ids-length L K S p n at c h v, v .slots))) (s .1 .1))
+            absurd (not-carried (K .ids c) who (s .0) (u (s .0) (omega (arith, s .1 .0, ids-length L K S p n at c h v, v .slots))) (s .1 .1))
         by false t = t
 
     module _ (pay : Payable (requestOf p at who cost) (K .slots c)) where
@@ -115,8 +115,7 @@ module _ {C R : Type 0} {E : Engine R} (L : Lawful E) (K : Columns C R) (S : Sto
         w = omega (arith, o .within, v .slots)
 
         mine : idAt K c i ≡ who
-        unfolding carries
-        mine = eqb-true _ _ (o .passes)
+        mine = carried (K .ids c) who i (o .passes)
 
         seated : somebody (idAt K c i) ≡ true
         seated = ap (λ (x : ℕ). somebody x) mine ∙ real
@@ -214,10 +213,9 @@ module _ {C R : Type 0} {E : Engine R} (L : Lawful E) (K : Columns C R) (S : Sto
     look :
         Placed (ruleOf E) K (queryOf p at who) c (slotFor (ruleOf E) K (queryOf p at who) c) →
         calls.peek (ruleOf E) K (queryOf p at who) c .answer ≡ answered who (reported p at (owed p at who h))
-    unfolding carries
     look (in-own i o e) =
         let w : i < n = omega (arith, o .within, v .slots) in
-        let mine : idAt K c i ≡ who = eqb-true _ _ (o .passes) in
+        let mine = carried (K .ids c) who i (o .passes) in
         let seated = ap (λ (x : ℕ). somebody x) mine ∙ number-9.not-empty-somebody who (a .subscriber) in
         peek-own L K (queryOf p at who) c i a o
         ∙ ap (λ (x : Verdict). answered who x) (report-sound E p at (K .row c i) (v .sound i w seated))
@@ -230,8 +228,12 @@ module _ {C R : Type 0} {E : Engine R} (L : Lawful E) (K : Columns C R) (S : Sto
       (at l who : ℕ) (c : C) (h : List Entry) → Related E K p n l c h →
       calls.peek (ruleOf E) K (queryOf p at who) c .answer ≡ book.peek n (queryOf p at who) h .answer →
       Same l (calls.peek (ruleOf E) K (queryOf p at who) c) (book.peek n (queryOf p at who) h)
-  unfolding calls.peek book.peek
-  looked at l who c h v e = record { answer = e; after = v }
+  unfolding book.peek
+  looked at l who c h v e =
+      record {
+        answer = e;
+        after = subst (λ (x : C). Related E K p n l x h) (sym (peek-keeps (ruleOf E) K c (queryOf p at who))) v;
+      }
 
   -- the book's look
   book-looks :
@@ -243,9 +245,10 @@ module _ {C R : Type 0} {E : Engine R} (L : Lawful E) (K : Columns C R) (S : Sto
   looks-refused :
       (at who : ℕ) (c : C) (h : List Entry) → K .slots c ≡ n → eqb (queryCheck (queryOf p at who) (K .slots c)) 0 ≡ false →
       calls.peek (ruleOf E) K (queryOf p at who) c .answer ≡ book.peek n (queryOf p at who) h .answer
-  unfolding calls.peek book.peek
+  unfolding book.peek
   looks-refused at who c h s e =
-      ap (λ (x : Verdict). answered who x)
+      peek-answers (ruleOf E) K c (queryOf p at who)
+      ∙ ap (λ (x : Verdict). answered who x)
       (peek-refused (ruleOf E) K c (queryOf p at who) e ∙ ap (λ (k : ℕ). bare (queryCheck (queryOf p at who) k)) s
       ∙ sym (guard-not-0 bare (queryCheck (queryOf p at who) n) _ (subst (λ (k : ℕ). eqb (queryCheck (queryOf p at who) k) 0 ≡ false) s e)))
 

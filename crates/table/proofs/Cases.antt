@@ -1,6 +1,6 @@
 -- What each call comes to in each case, for any rule and any columns. A function's proof cites the case that it returns in.
 -- Assumes nothing.
-use mathlib.Core.Path.{_≡_, ap, _∙_}
+use mathlib.Core.Path.{_≡_, refl, ap, _∙_}
 use mathlib.Core.Bool.{true, false}
 use Prim.Native.Nat.{ℕ}
 use lib.Dec.{eqb}
@@ -14,7 +14,7 @@ use Rattle.table.specs.Checks.{slotsOk, queryCheck, requestCheck}
 use Rattle.table.specs.Rule.{Rule}
 use Rattle.table.specs.Slots.{Columns, own, lowestFree}
 use Rattle.table.specs.Calls.{Slot, none, at, keep, write, ruled, newcomer, slotFrom, slotFor, judgeIn, judgeCall}
-use Rattle.table.specs.Calls.{heldAt, held, peekVerdict, clear}
+use Rattle.table.specs.Calls.{commit, acquire, heldAt, held, peekVerdict, peek, clear}
 use Rattle.table.proofs.Checks.{guard-0, guard-not-0}
 
 -- only an admission writes
@@ -88,6 +88,20 @@ module _ {C R : Type 0} (U : Rule R) (K : Columns C R) (c : C) where
         judgeCall U K r c ≡ ruled i (U .judge (r .query .plan) (r .query .moment) h (r .cost))
     unfolding judgeIn
     judge-at e f = judge-passed e f
+
+-- an ask is judged and committed; a look answers its verdict and leaves the columns
+module _ {C R : Type 0} (U : Rule R) (K : Columns C R) (c : C) where
+  pub acquire-commits : (r : Request) → acquire U K r c ≡ commit K (r .query .subscriber) c (judgeCall U K r c)
+  unfolding acquire
+  acquire-commits r = refl
+
+  pub peek-answers : (q : Query) → peek U K q c .answer ≡ answered (q .subscriber) (peekVerdict U K q c)
+  unfolding peek
+  peek-answers q = refl
+
+  pub peek-keeps : (q : Query) → peek U K q c .after ≡ c
+  unfolding peek
+  peek-keeps q = refl
 
 -- a clear
 module _ {C R : Type 0} (K : Columns C R) (c : C) where

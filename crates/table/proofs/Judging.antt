@@ -14,10 +14,11 @@ use Rattle.rate.specs.Engine.{Judged}
 use Rattle.rate.proofs.Answers.{refused, refuses, table-full}
 use Rattle.table.specs.declared.check.Check.{Check}
 use Rattle.table.specs.declared.check.Check.the-variants.{Passed, Failed}
+use Rattle.table.specs.declared.search.Place.{Place}
 use Rattle.table.specs.Request.{Query, Request}
 use Rattle.table.specs.Checks.{checkNumber, queryCheck, requestCheck}
 use Rattle.table.specs.Rule.{Rule}
-use Rattle.table.specs.Slots.{Columns, common}
+use Rattle.table.specs.Slots.{Columns, common, seek, carries, own, vacant, lowestFree}
 use Rattle.table.specs.Calls.{none, at, Ruling, keep, write, ruled, slotFor, judgeCall, held, peekVerdict}
 use Rattle.table.proofs.Cases.{ruled-writes, ruled-keeps, judge-refused, judge-full, judge-at, peek-refused, peek-reported}
 use Rattle.table.proofs.Checks.{Asked, asked, payable, slots-least}
@@ -85,6 +86,16 @@ module _ {C R : Type 0} (U : Rule R) (K : Columns C R) (c : C) where
       h ≡ held U K q c → v ≡ U .report (q .plan) (q .moment) h → v ≡ peekVerdict U K q c
   peeks-reported q says e f v =
       v ∙ ap (λ (h : R). U .report (q .plan) (q .moment) h) f ∙ sym (peek-reported U K c q (told-passed says e))
+
+-- a search over all slots
+module _ {C R : Type 0} (K : Columns C R) (c : C) (q : Query) {n : ℕ} (count : K .slots c ≡ n) {p p′ : Place} where
+  pub own-found : p ≡ seek (carries (K .ids c) (q .subscriber)) n → p ≡ p′ → own K q c ≡ p′
+  unfolding own
+  own-found says e = ap (λ (k : ℕ). seek (carries (K .ids c) (q .subscriber)) k) count ∙ sym says ∙ e
+
+  pub free-found : (U : Rule R) → p ≡ seek (vacant U K q c) n → p ≡ p′ → lowestFree U K q c ≡ p′
+  unfolding lowestFree
+  free-found U says e = ap (λ (k : ℕ). seek (vacant U K q c) k) count ∙ sym says ∙ e
 
 -- what the checks have shown, where they passed
 module _ (slots : ℕ) where

@@ -7,7 +7,8 @@ use denote.Ref.{now}
 use Rattle.rate.specs.Gcra.{gcra}
 use Rattle.table.specs.Request.{queryOf}
 use Rattle.table.specs.Rule.{ruleOf}
-use Rattle.table.specs.Slots.{carries, vacant}
+use Rattle.table.specs.Slots.{vacant}
+use Rattle.table.proofs.Slots.{vacant-test}
 use Rattle.table.proofs.Seek.{NoneBelow, none-next, seek-end, seek-here}
 use Rattle.gcra_table.specs.Table.{tableOf, columns}
 use Rattle.gcra_table.proofs.Searches.{free-all}
@@ -47,8 +48,12 @@ loop-less : tie.Need-loop-less Inv-loop μ-loop
 loop-less c = omega arith
 
 loop-again : tie.Need-loop-again Inv-loop μ-loop
-unfolding vacant carries columns ruleOf
-loop-again c = none-next _ (c .before .before .before .before .before .loop .i) (c .before .before .before .before .before .loop .inv) (sym (c .before .is-vacant .ensures) ∙ c .if2 .left)
+unfolding columns
+loop-again c =
+    let S = c .before .before .before .before .before .before .before .before .args in
+    let at-loop = c .before .before .before .before .before .loop in
+    let test = vacant-test gcra columns (queryOf (S .plan) (S .moment .0) (S .subscriber)) (tableOf (now (S .ids)) (now (S .tats))) (at-loop .i) in
+    none-next _ (at-loop .i) (at-loop .inv) (test ∙ sym (c .before .is-vacant .ensures) ∙ c .if2 .left)
 
 returns : tie.Need-returns Inv-loop μ-loop
 returns c =
@@ -58,12 +63,13 @@ returns c =
     (seek-end _ _ (c .before .loop .i) (c .before .loop .inv) (c .if1 .taken)) refl)
 
 returns-2 : tie.Need-returns-2 Inv-loop μ-loop
-unfolding vacant carries columns ruleOf
+unfolding columns
 returns-2 c =
     let S = c .before .before .before .before .before .before .before .before .args in
     let q = queryOf (S .plan) (S .moment .0) (S .subscriber) in
     let at-loop = c .before .before .before .before .before .loop in
-    let free = sym (c .before .is-vacant .ensures) ∙ c .if2 .taken in
+    let test = vacant-test gcra columns q (tableOf (now (S .ids)) (now (S .tats))) (at-loop .i) in
+    let free = test ∙ sym (c .before .is-vacant .ensures) ∙ c .if2 .taken in
     sym (free-all (now (S .ids)) (now (S .tats)) (c .before .before .before .before .before .before .before .before .pre) q
     (seek-here _ _ (at-loop .i) (at-loop .inv) (c .before .before .before .before .if1 .left) free) refl)
 
