@@ -3,13 +3,18 @@
 use mathlib.Core.Path.{_≡_, refl, sym, ap₂}
 use Prim.Native.Nat.{ℕ, _≤_, _<_}
 use native.Mathlib.Omega.{arith}
-use lib.ListN.{length, length-set, length-replicate}
+use lib.ListN.{length, replicate, length-set, length-replicate}
 use lib.Seq.{getD-set-same, getD-set-other}
 use Rattle.rate.specs.declared.units.Ticks.{Ticks}
 use Rattle.table.specs.Slots.{common}
 use Rattle.table.proofs.Slots.{common-equal, common-same}
 use Rattle.table.proofs.Stored.{Stored}
 use Rattle.gcra_table.specs.Table.{Table, columns}
+
+-- a cleared table carries nobody
+ids-zeros : (t : Table) → columns .ids (columns .zeros t) ≡ replicate (length (t .ids)) 0
+unfolding columns
+ids-zeros t = refl
 
 -- the place of a slot lies within both columns
 pub in-both : (t : Table) (i : ℕ) → i < columns .slots t → (i < length (t .ids)) × (i < length (t .tats))
@@ -31,7 +36,7 @@ pub gcra-stored : Stored columns
 unfolding columns
 gcra-stored =
     record {
-      ids-zeros = λ t. refl;
+      ids-zeros = ids-zeros;
       ids-length = ids-length;
       slots-put = λ t i subscriber tat. ap₂ (λ (a b : ℕ). common a b) (length-set (t .ids) i subscriber) (length-set (t .tats) i (tat .0));
       ids-put = λ t i subscriber tat. refl;

@@ -2,4 +2,5 @@
 // header.
 
 mod gcra; // railcadence_gcra_acquire, _peek and _clear
+mod token_bucket; // railcadence_token_bucket_acquire, _peek and _clear
 mod five; // an answer as five numbers

@@ -14,3 +14,4 @@ pub mod Wait
 pub mod Cleared
 pub mod Peek
 pub mod PeekNumbers
+pub mod Laws

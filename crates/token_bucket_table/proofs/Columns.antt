@@ -1,15 +1,23 @@
 -- The columns of the token bucket engine keep what is written.
 -- Assumes nothing.
-use mathlib.Core.Path.{_≡_, refl, ap₂}
+use mathlib.Core.Path.{_≡_, refl, ap, ap₂, _∙_}
+use mathlib.Core.List.{List}
 use Prim.Native.Nat.{ℕ, _≤_, _<_}
 use native.Mathlib.Omega.{arith}
-use lib.ListN.{length, length-set, length-replicate}
+use lib.ListN.{length, replicate, length-set, length-replicate}
 use lib.Seq.{getD-set-same, getD-set-other}
 use Rattle.rate.specs.declared.token_bucket.Bucket.{Bucket}
+use Rattle.table.specs.Request.{Query}
 use Rattle.table.specs.Slots.{common}
+use Rattle.table.proofs.Checks.{Asked, slots-least}
 use Rattle.table.proofs.Slots.{common-equal, common-same}
 use Rattle.table.proofs.Stored.{Stored}
-use Rattle.token_bucket_table.specs.Table.{Table, columns}
+use Rattle.token_bucket_table.specs.Table.{Table, tableOf, columns, Even, Within}
+
+-- a cleared table carries nobody
+ids-zeros : (t : Table) → columns .ids (columns .zeros t) ≡ replicate (length (t .ids)) 0
+unfolding columns
+ids-zeros t = refl
 
 -- columns that are a table are equally long
 pub record Equal (t : Table) : Type 0 where
@@ -26,6 +34,33 @@ equal t h =
     let inner : length (t .ids) ≡ length (t .levels) = common-equal (length (t .ids)) (length (t .levels)) (omega arith) in
     let both : first ≡ length (t .ids) = common-same (length (t .ids)) (length (t .levels)) inner in
     record { ids = omega arith; levels = omega arith; lasts = omega arith }
+
+pub even : (q : Query) (t : Table) → Asked q (columns .slots t) → Even t
+even q t asked =
+    let e = equal t (slots-least (columns .slots t) (asked .table)) in
+    record { levels = omega (arith, e .ids, e .levels); lasts = omega (arith, e .ids, e .lasts) }
+
+-- a place among the ids is within the other columns
+pub within : {t : Table} {i : ℕ} → Even t → i < length (t .ids) → Within (t .levels) (t .lasts) i
+within e h = record { in-levels = omega (arith, e .levels); in-lasts = omega (arith, e .lasts) }
+
+-- the place of a slot lies within all columns
+pub in-all : (t : Table) (i : ℕ) → i < columns .slots t → (i < length (t .ids)) × Within (t .levels) (t .lasts) i
+in-all t i h =
+    let e = equal t (omega arith) in
+    (omega (arith, e .ids), record { in-levels = omega (arith, e .levels); in-lasts = omega (arith, e .lasts) })
+
+-- the slots as the code counts them
+pub counted :
+    (t : Table) {a b : ℕ} → a ≡ common (length (t .ids)) (length (t .levels)) → b ≡ common a (length (t .lasts)) →
+    b ≡ columns .slots t
+unfolding columns
+counted t first both = both ∙ ap (λ (n : ℕ). common n (length (t .lasts))) first
+
+pub same-table :
+    {ids ids′ levels levels′ lasts lasts′ : List ℕ} → ids ≡ ids′ → levels ≡ levels′ → lasts ≡ lasts′ →
+    tableOf ids levels lasts ≡ tableOf ids′ levels′ lasts′
+same-table a b c k = tableOf (a k) (b k) (c k)
 
 row-same :
     (t : Table) (i subscriber : ℕ) (b : Bucket) → i < columns .slots t → columns .row (columns .put t i subscriber b) i ≡ b
@@ -55,5 +90,5 @@ token-bucket-stored =
           };
       slots-zeros = λ t.
           three _ _ _ _ _ _ (length-replicate (length (t .ids)) 0) (length-replicate (length (t .levels)) 0) (length-replicate (length (t .lasts)) 0);
-      ids-zeros = λ t. refl;
+      ids-zeros = ids-zeros;
     }

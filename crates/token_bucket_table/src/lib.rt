@@ -1,2 +1,83 @@
-// The token bucket engine (document 01's bucket engine) over columns that a host lends. Its calls are defined here and
-// tied to the history; no code of them runs yet.
+// The token bucket engine (document 01's bucket engine) over columns that a host lends: `ids` holds the subscribers'
+// numbers, 0 in an empty slot, `levels` what an admission left in the bucket, in ticks of the plan, and `lasts` the moments
+// of these admissions, in milliseconds. Any values may be passed, damaged tables too.
+//
+//   acquire   decides, and spends if it admits (document 01's ask)
+//   peek      reports, and spends nothing (look)
+//   clear     makes every column all zeros
+//
+// Only an acquire that is admitted writes, and only in the subscriber's own slot.
+ghost use mathlib.Core.Path.{_≡_};
+ghost use Rattle.rate.specs.Answer.{numbersOf, clearedNumbers};
+ghost use Rattle.table.specs.Request.{queryOf, requestOf};
+ghost use Rattle.token_bucket_table.specs.Table.{tableOf, acquire, peek, clear};
+use rate::answer::Answer;
+use rate::answer::Cleared;
+use rate::plan::Plan;
+use rate::units::Millis;
+use table::check;
+use table::columns;
+
+mod ruling; // an acquire judged, then committed
+mod slot; // the slot that a subscriber is judged in
+mod view; // a peek's outcome
+
+// Whether the subscriber gets `cost` units at the moment. If so they are spent.
+pub fn acquire(
+    plan: Plan,
+    ids: &mut [u32],
+    levels: &mut [u64],
+    lasts: &mut [u64],
+    moment: Millis,
+    subscriber: u32,
+    cost: u32,
+) -> Answer
+    ensures { λ r. ⌜ numbersOf r ≡ acquire (requestOf plan (moment .0) subscriber cost)
+        (tableOf (now (ids .entry)) (now (levels .entry)) (now (lasts .entry))) .answer ⌝ }
+    ensures { λ r. ⌜ tableOf (now (ids .exit)) (now (levels .exit)) (now (lasts .exit))
+        ≡ acquire (requestOf plan (moment .0) subscriber cost)
+        (tableOf (now (ids .entry)) (now (levels .entry)) (now (lasts .entry))) .after ⌝ }
+{
+    let ruling = ruling::judge(plan, ids, levels, lasts, moment, subscriber, cost);
+    let outcome = ruling::commit(ids, levels, lasts, subscriber, ruling);
+    Answer {
+        subscriber,
+        outcome,
+    }
+}
+
+// What the subscriber has left at the moment, and when it has everything again.
+pub fn peek(
+    plan: Plan,
+    ids: &[u32],
+    levels: &[u64],
+    lasts: &[u64],
+    moment: Millis,
+    subscriber: u32,
+) -> Answer
+    ensures { λ r. ⌜ numbersOf r ≡ peek (queryOf plan (moment .0) subscriber)
+        (tableOf (now (ids .entry)) (now (levels .entry)) (now (lasts .entry))) .answer ⌝ }
+{
+    let outcome = view::view(plan, ids, levels, lasts, moment, subscriber);
+    Answer {
+        subscriber,
+        outcome,
+    }
+}
+
+// Makes every column all zeros, if the columns are a table.
+pub fn clear(ids: &mut [u32], levels: &mut [u64], lasts: &mut [u64]) -> Cleared
+    ensures { λ r. ⌜ clearedNumbers r ≡ clear
+        (tableOf (now (ids .entry)) (now (levels .entry)) (now (lasts .entry))) .answer ⌝ }
+    ensures { λ r. ⌜ tableOf (now (ids .exit)) (now (levels .exit)) (now (lasts .exit)) ≡ clear
+        (tableOf (now (ids .entry)) (now (levels .entry)) (now (lasts .entry))) .after ⌝ }
+{
+    let slots = columns::common(columns::common(ids.len(), levels.len()), lasts.len());
+    if !check::is_slot_count(slots) {
+        return Cleared::BadTable;
+    }
+    columns::zero_u32(ids);
+    columns::zero_u64(levels);
+    columns::zero_u64(lasts);
+    Cleared::Done
+}

@@ -1,0 +1,10 @@
+-- The laws of the calls hold of the token bucket engine (table, proofs/Laws).
+-- Assumes nothing.
+use Rattle.rate.specs.TokenBucket.{tokenBucket}
+use Rattle.rate.proofs.TokenBucketLaws.{token-bucket-lawful}
+use Rattle.table.proofs.Laws.{CallLaws, call-laws}
+use Rattle.token_bucket_table.specs.Table.{columns}
+use Rattle.token_bucket_table.proofs.Columns.{token-bucket-stored}
+
+pub token-bucket-laws : CallLaws tokenBucket columns
+token-bucket-laws = call-laws token-bucket-lawful token-bucket-stored

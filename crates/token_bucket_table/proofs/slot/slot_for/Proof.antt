@@ -1,0 +1,86 @@
+-- `token_bucket_table::slot::slot_for` meets its contract: the own slot, or a newcomer's, or none.
+-- Assumes nothing.
+use Rattle.rate.specs.TokenBucket.{tokenBucket}
+use Rattle.table.specs.Request.{queryOf}
+use Rattle.table.specs.Rule.{ruleOf}
+use denote.Ref.{now}
+use mathlib.Core.Path.{sym, ap, _∙_}
+use Rattle.rate.specs.declared.token_bucket.Bucket.{Bucket}
+use Rattle.table.specs.Calls.{at}
+use Rattle.table.proofs.Cases.{slot-own, slot-new, slot-none}
+use Rattle.table.proofs.Seek.{found-within}
+use Rattle.token_bucket_table.specs.Table.{tableOf, columns, slotOf}
+use Rattle.token_bucket_table.proofs.Columns.{within}
+use Rattle.token_bucket_table.proofs.Searches.{own-all}
+use borrow.Author.Needs.{needs}
+use Rattle.token_bucket_table.proofs.slot.slot_for.Statement.{statement}
+use Rattle.token_bucket_table.proofs.slot.slot_for.Tie as tie
+
+find-requires : tie.Need-find-requires
+find-requires c κs = search needs
+
+enum-known-own : tie.Need-enum-known-own
+enum-known-own c = search needs
+
+bucket-at-requires : tie.Need-bucket-at-requires
+bucket-at-requires c κs = within (c .before .before .before .before .before .before .before .pre) (found-within _ (c .before .before .before .find .ensures) (c .before .own .given .1))
+
+returns : tie.Need-returns
+unfolding slotOf columns
+returns c =
+    let S = c .before .before .before .before .before .before .before .before .args in
+    let t = tableOf (now (S .ids)) (now (S .levels)) (now (S .lasts)) in
+    let q = queryOf (S .plan) (S .moment .0) (S .subscriber) in
+    let found = own-all t (c .before .before .before .before .before .before .before .before .pre) q (c .before .before .before .before .find .ensures) (c .before .before .own .given .1) in
+    ap (λ (b : Bucket). at (c .before .before .own .given .0 .0) b) (c .bucket-at .ensures) ∙ sym (slot-own (ruleOf tokenBucket) columns t q found)
+
+enum-told : tie.Need-enum-told
+enum-told c = search needs
+
+lowest-free-requires : tie.Need-lowest-free-requires
+lowest-free-requires c κs = c .before .before .before .before .before .before .pre
+
+enum-known-free : tie.Need-enum-known-free
+enum-known-free c = search needs
+
+enum-told-2 : tie.Need-enum-told-2
+enum-told-2 c = search needs
+
+returns-2 : tie.Need-returns-2
+unfolding slotOf
+returns-2 c =
+    let S = c .before .before .before .before .before .before .before .before .before .args in
+    let t = tableOf (now (S .ids)) (now (S .levels)) (now (S .lasts)) in
+    let q = queryOf (S .plan) (S .moment .0) (S .subscriber) in
+    let unknown = own-all t (c .before .before .before .before .before .before .before .before .before .pre) q (c .before .before .before .before .before .find .ensures) (c .before .before .before .enum-told .given .1) in
+    let full = sym (c .before .before .lowest-free .ensures) ∙ c .enum-told2 .given .1 in
+    sym (slot-none (ruleOf tokenBucket) columns t q unknown full)
+
+fresh-requires : tie.Need-fresh-requires
+fresh-requires c κs = search needs
+
+returns-3 : tie.Need-returns-3
+unfolding slotOf ruleOf
+returns-3 c =
+    let S = c .before .before .before .before .before .before .before .before .before .before .before .args in
+    let t = tableOf (now (S .ids)) (now (S .levels)) (now (S .lasts)) in
+    let q = queryOf (S .plan) (S .moment .0) (S .subscriber) in
+    let unknown = own-all t (c .before .before .before .before .before .before .before .before .before .before .before .pre) q (c .before .before .before .before .before .before .before .find .ensures) (c .before .before .before .before .before .enum-told .given .1) in
+    let vacant = sym (c .before .before .before .before .lowest-free .ensures) ∙ c .before .before .free .given .1 in
+    ap (λ (b : Bucket). at (c .before .before .free .given .0 .0) b) (c .fresh .ensures) ∙ sym (slot-new (ruleOf tokenBucket) columns t q unknown vacant)
+
+pub slot-for-spec : {M : Type 1} → statement M
+slot-for-spec =
+    tie.close
+    (tie.spec
+    find-requires
+    enum-known-own
+    bucket-at-requires
+    returns
+    enum-told
+    lowest-free-requires
+    enum-known-free
+    enum-told-2
+    returns-2
+    fresh-requires
+    returns-3)
