@@ -1,6 +1,7 @@
-/* A table of one slot under a plan of 3 units per second with a burst of 2: document 01's example.
- * Each line printed is a call (acquire with moment, subscriber and cost; peek with moment and
- * subscriber) and its answer: number, subscriber, left, reset, wait.
+/* A table of one slot under a plan of 3 units per second with a burst of 2: document 01's example,
+ * asked of both engines, each on a table of its own. Each line printed is a call (acquire with
+ * moment, subscriber and cost; peek with moment and subscriber) and two answers, GCRA's and the
+ * token bucket's: number, subscriber, left, reset, wait.
  *
  *     gcc -std=c11 -o example example.c FOLDER/librailcadence_c.a
  */
@@ -13,41 +14,61 @@
 
 static const uint32_t limit = 3, period = 1000, burst = 2;
 
-static uint32_t ids[SLOTS];
+/* GCRA's table */
+static uint32_t gcra_ids[SLOTS];
 static uint64_t tats[SLOTS];
 
-static void print(const uint64_t out[RAILCADENCE_NUMBERS])
+/* the token bucket's table */
+static uint32_t bucket_ids[SLOTS];
+static uint64_t levels[SLOTS], lasts[SLOTS];
+
+static void print_numbers(const uint64_t out[RAILCADENCE_NUMBERS])
 {
-    printf(" ->");
     for (int i = 0; i < RAILCADENCE_NUMBERS; i++)
         printf(" %" PRIu64, out[i]);
+}
+
+static void print(const uint64_t gcra[RAILCADENCE_NUMBERS],
+                  const uint64_t bucket[RAILCADENCE_NUMBERS])
+{
+    printf(" ->");
+    print_numbers(gcra);
+    printf(" |");
+    print_numbers(bucket);
     printf("\n");
 }
 
 static void clear(void)
 {
-    uint64_t out[RAILCADENCE_NUMBERS];
-    railcadence_gcra_clear(ids, SLOTS, tats, SLOTS, out);
+    uint64_t gcra[RAILCADENCE_NUMBERS], bucket[RAILCADENCE_NUMBERS];
+    railcadence_gcra_clear(gcra_ids, SLOTS, tats, SLOTS, gcra);
+    railcadence_token_bucket_clear(bucket_ids, SLOTS, levels, SLOTS, lasts, SLOTS, bucket);
     printf("clear");
-    print(out);
+    print(gcra, bucket);
 }
 
 static void acquire(uint64_t moment, uint32_t subscriber, uint32_t cost)
 {
-    uint64_t out[RAILCADENCE_NUMBERS];
-    railcadence_gcra_acquire(limit, period, burst, ids, SLOTS, tats, SLOTS,
-                             moment, subscriber, cost, out);
+    uint64_t gcra[RAILCADENCE_NUMBERS], bucket[RAILCADENCE_NUMBERS];
+    railcadence_gcra_acquire(limit, period, burst, gcra_ids, SLOTS, tats, SLOTS,
+                             moment, subscriber, cost, gcra);
+    railcadence_token_bucket_acquire(limit, period, burst, bucket_ids, SLOTS,
+                                     levels, SLOTS, lasts, SLOTS,
+                                     moment, subscriber, cost, bucket);
     printf("acquire %" PRIu64 " %" PRIu32 " %" PRIu32, moment, subscriber, cost);
-    print(out);
+    print(gcra, bucket);
 }
 
 static void peek(uint64_t moment, uint32_t subscriber)
 {
-    uint64_t out[RAILCADENCE_NUMBERS];
-    railcadence_gcra_peek(limit, period, burst, ids, SLOTS, tats, SLOTS,
-                          moment, subscriber, out);
+    uint64_t gcra[RAILCADENCE_NUMBERS], bucket[RAILCADENCE_NUMBERS];
+    railcadence_gcra_peek(limit, period, burst, gcra_ids, SLOTS, tats, SLOTS,
+                          moment, subscriber, gcra);
+    railcadence_token_bucket_peek(limit, period, burst, bucket_ids, SLOTS,
+                                  levels, SLOTS, lasts, SLOTS,
+                                  moment, subscriber, bucket);
     printf("peek %" PRIu64 " %" PRIu32, moment, subscriber);
-    print(out);
+    print(gcra, bucket);
 }
 
 int main(void)

@@ -55,8 +55,8 @@ impl Book {
 
     /// An ask that passed checks 1 to 6. The admitted one is added at the end of its subscriber's list.
     fn decide(&mut self, s: u128, subscriber: u32, cost: u128) -> Verdict {
-        let others = self.lists.keys().filter(|&&other| other != subscriber);
-        let owing = others.filter(|&&other| self.debt(other, s) > 0).count();
+        let others = self.lists.iter().filter(|(&other, _)| other != subscriber);
+        let owing = others.filter(|(_, list)| self.owed(list, s) > 0).count();
         if owing == self.slots {
             return refusal(9);
         }
@@ -72,12 +72,17 @@ impl Book {
         settled(&self.plan, s, after)
     }
 
+    fn debt(&self, subscriber: u32, s: u128) -> u128 {
+        let list = self.lists.get(&subscriber);
+        list.map_or(0, |list| self.owed(list, s))
+    }
+
     /// The largest, over every call i in the list, of P × (costs from call i to the end) − N × (s − moment of i), or 0
     /// if none is positive.
-    fn debt(&self, subscriber: u32, s: u128) -> u128 {
+    fn owed(&self, list: &[Admitted], s: u128) -> u128 {
         let (n, p, s) = (self.plan.limit as i128, self.plan.period as i128, s as i128);
         let (mut costs, mut largest) = (0, 0);
-        for call in self.lists.get(&subscriber).into_iter().flatten().rev() {
+        for call in list.iter().rev() {
             costs += call.cost;
             largest = largest.max(p * costs - n * (s - call.moment));
         }

@@ -1,7 +1,8 @@
 //! Document 01's example, for the tests: one seat, 3 units per 1000 ms, burst 2.
 
+use crate::decision::{Bucket, Paced};
 use crate::plan::Plan;
-use crate::table::Answer;
+use crate::table::{Answer, Stored, Table};
 
 pub fn plan() -> Plan {
     Plan::new(3, 1000, 2)
@@ -22,3 +23,46 @@ pub const LINES: [Line; 10] = [
     (2000, 7, 1, [9, 7, 0, 0, 0]),
     (1999, 8, 1, [7, 8, 0, 0, 0]),
 ];
+
+/// What hosts/c/example.c must print: a call, GCRA's answer and the token bucket's.
+const IN_C: &str = include_str!("../../c/example.expected");
+
+fn words(answer: Answer) -> String {
+    answer.map(|number| number.to_string()).join(" ")
+}
+
+/// A call in words, on a table of one slot.
+fn play<R: Stored>(table: &mut Table<R>, call: &str) -> String {
+    let mut parts = call.split(' ');
+    let name = parts.next();
+    let numbers = parts.map(|word| word.parse().expect("a number of 32 bits"));
+    let numbers: Vec<u32> = numbers.collect();
+    words(match (name, numbers.as_slice()) {
+        (Some("acquire"), &[moment, who, cost]) => table.acquire(&plan(), moment as u64, who, cost),
+        (Some("peek"), &[moment, who]) => table.peek(&plan(), moment as u64, who),
+        (Some("clear"), []) => table.clear(),
+        _ => panic!("no call: {call}"),
+    })
+}
+
+/// Its asks are the document's, with the document's answers from both engines.
+#[test]
+fn the_example_in_c_is_the_document_s() {
+    let asks = IN_C.lines().filter(|line| line.starts_with("acquire"));
+    let lines = LINES.map(|(moment, subscriber, cost, answer)| {
+        let answer = words(answer);
+        format!("acquire {moment} {subscriber} {cost} -> {answer} | {answer}")
+    });
+    assert!(asks.eq(lines.iter()), "{IN_C}");
+}
+
+/// Both tables give all its answers, of peeks and clears too.
+#[test]
+fn the_example_in_c_is_reckoned_again() {
+    let (mut paced, mut bucket) = (Table::<Paced>::cleared(1), Table::<Bucket>::cleared(1));
+    for line in IN_C.lines() {
+        let (call, _) = line.split_once(" -> ").expect("a call and its answers");
+        let answers = [play(&mut paced, call), play(&mut bucket, call)].join(" | ");
+        assert_eq!(line, format!("{call} -> {answers}"));
+    }
+}

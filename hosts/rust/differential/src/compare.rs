@@ -4,7 +4,7 @@
 use crate::call::{Call, Terms};
 use crate::engine::Engine;
 use crate::lent::Lent;
-use crate::spoil::{Done, Spoil};
+use crate::spoil::{Done, Fault, Spoil};
 use model::table::{Answer, Table};
 
 /// How many slots a difference shows, and which it shows in any case.
@@ -19,7 +19,7 @@ pub struct Pair<E> {
     model: Table<E>,
     real: Lent,
     before: Table<E>,
-    spoil: Option<Spoil>,
+    fault: Option<Fault>,
 }
 
 impl<E: Engine> Pair<E> {
@@ -29,7 +29,7 @@ impl<E: Engine> Pair<E> {
             real: Lent::new(&table),
             before: table.clone(),
             model: table,
-            spoil,
+            fault: spoil.and_then(|spoil| spoil.of_engine(E::NAME)),
         }
     }
 
@@ -51,6 +51,12 @@ impl<E: Engine> Pair<E> {
         Ok(answer)
     }
 
+    /// Whether the last call gave somebody the slot of another.
+    pub fn took_over(&self) -> bool {
+        let mut slots = self.before.ids.iter().zip(&self.model.ids);
+        slots.any(|(&before, &after)| before != 0 && after != 0 && before != after)
+    }
+
     fn ask_model(&mut self, call: &Call) -> Answer {
         let plan = self.terms.plan();
         match *call {
@@ -58,7 +64,13 @@ impl<E: Engine> Pair<E> {
                 moment,
                 subscriber,
                 cost,
-            } => self.model.acquire(&plan, moment, subscriber, cost),
+            } => {
+                let mut answer = self.model.acquire(&plan, moment, subscriber, cost);
+                if self.fault == Some(Fault::Nonsense) && matches!(answer[0], 0 | 8) {
+                    answer[3] += 1; // as `Done::spoil` does to the archive's
+                }
+                answer
+            }
             Call::Peek { moment, subscriber } => self.model.peek(&plan, moment, subscriber),
             Call::Clear => self.model.clear(),
         }
@@ -66,7 +78,7 @@ impl<E: Engine> Pair<E> {
 
     fn ask_archive(&mut self, call: &Call) -> Answer {
         let mut out = E::call(&self.terms, &mut self.real, call);
-        if let Some(spoil) = self.spoil {
+        if let Some(fault) = self.fault {
             let mut done = Done {
                 plan: &self.terms.plan(),
                 call,
@@ -74,29 +86,20 @@ impl<E: Engine> Pair<E> {
                 after: &mut self.real,
                 out: &mut out,
             };
-            done.spoil(spoil);
+            done.spoil(fault);
         }
         out.map(u128::from)
     }
 
-    /// What was called on what, and both results; `expected` is the model's or the book's answer.
-    pub fn difference(&self, call: &Call, what: &str, expected: Answer, answer: Answer) -> String {
-        let Terms {
-            limit,
-            period,
-            burst,
-        } = self.terms;
-        let mut text = format!("{}: {what}\n", E::NAME);
-        text += &format!("  plan      limit {limit} period {period} burst {burst}\n");
-        text += &format!("  call      {call}\n");
-        text += "  an answer is number, subscriber, left, reset, wait\n";
+    fn difference(&self, call: &Call, what: &str, expected: Answer, answer: Answer) -> String {
+        let mut text = format!("{}: {what}\n{}", E::NAME, circumstances(&self.terms, call));
         text += &format!("  expected  {expected:?}\n  archive   {answer:?}\n");
         text + &self.rows(call)
     }
 
     /// The columns before the call, after it as expected, and after it in the archive's table: the first slots, those of
     /// the subscriber, and those that differ.
-    fn rows(&self, call: &Call) -> String {
+    pub fn rows(&self, call: &Call) -> String {
         let ids = self.before.ids.len();
         let lengths: Vec<usize> = self.before.columns.iter().map(Vec::len).collect();
         let slots = lengths.iter().fold(ids, |a, &b| a.max(b));
@@ -121,6 +124,19 @@ impl<E: Engine> Pair<E> {
         }
         text + &format!("  {shown} of {slots} slots are shown\n")
     }
+}
+
+/// What was called under which plan, and how an answer is to be read.
+pub fn circumstances(terms: &Terms, call: &Call) -> String {
+    let Terms {
+        limit,
+        period,
+        burst,
+    } = terms;
+    format!(
+        "  plan      limit {limit} period {period} burst {burst}\n  call      {call}\n  \
+         an answer is number, subscriber, left, reset, wait\n"
+    )
 }
 
 /// One slot of a table in words.

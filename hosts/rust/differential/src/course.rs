@@ -4,13 +4,25 @@
 use crate::call::{Call, Terms};
 use crate::choose::{self, LAST};
 use crate::rng::Rng;
+use model::checks::MOST_SLOTS;
 use model::plan::div_up;
 use model::table::Answer;
+
+/// How many slots: few; from 41 to 4,095; or 4,096.
+#[derive(Clone, Copy, PartialEq, Eq)]
+pub enum Size {
+    Few,
+    Between,
+    Most,
+}
 
 pub struct Course {
     pub terms: Terms,
     pub slots: usize,
+    size: Size,
     subscribers: u64,
+    /// Where the slots are many, how many subscribers are still to ask one after the other, until the table is full.
+    to_come: u32,
     falls: bool,
     moment: u64,
     /// In how many milliseconds a whole burst drains.
@@ -19,10 +31,10 @@ pub struct Course {
     pace: u64,
 }
 
-fn terms(rng: &mut Rng) -> Terms {
+fn terms(rng: &mut Rng, size: Size) -> Terms {
     match rng.below(16) {
-        0 => choose::bad_terms(rng),
-        1..=5 => choose::good_terms(rng),
+        0 if size == Size::Few => choose::bad_terms(rng),
+        0..=5 => choose::good_terms(rng),
         _ => Terms {
             limit: rng.pick(&[1, 2, 3, 7, 10, 1000]),
             period: rng.pick(&[1, 2, 10, 999, 1000, 86_400_000]),
@@ -31,28 +43,47 @@ fn terms(rng: &mut Rng) -> Terms {
     }
 }
 
+fn slots(rng: &mut Rng, size: Size) -> u64 {
+    match (size, rng.below(16)) {
+        (Size::Most, _) => MOST_SLOTS as u64,
+        (Size::Between, _) => 40 + rng.of_any_size(MOST_SLOTS as u64 - 41),
+        (Size::Few, 0) => rng.from(9, 40),
+        (Size::Few, 1..=5) => 1,
+        (Size::Few, _) => rng.from(2, 8),
+    }
+}
+
 impl Course {
-    pub fn new(rng: &mut Rng, falls: bool) -> Course {
-        let terms = terms(rng);
-        let slots = match rng.below(16) {
-            0 => rng.from(9, 40),
-            1..=5 => 1,
-            _ => rng.from(2, 6),
-        };
+    pub fn new(rng: &mut Rng, size: Size, falls: bool) -> Course {
+        let terms = terms(rng, size);
+        let slots = slots(rng, size);
         let subscribers = slots + rng.from(1, slots + 2);
         let drain = div_up(terms.plan().full(), terms.plan().limit) as u64;
         let share = drain / subscribers;
         let mut course = Course {
             terms,
             slots: slots as usize,
+            size,
             subscribers,
+            to_come: 0,
             falls,
             moment: 0,
             drain,
             pace: rng.pick(&[1, share / 8, share / 2, share, 2 * share]),
         };
         course.start_the_clock(rng);
+        course.gather();
         course
+    }
+
+    /// How many calls the run has.
+    pub fn length(&self, rng: &mut Rng) -> u64 {
+        let slots = self.slots as u64;
+        match self.size {
+            Size::Few if rng.once_in(32) => rng.from(50, 3000),
+            Size::Few => rng.from(50, 400),
+            _ => 100 + rng.from(2 * slots, 3 * slots),
+        }
     }
 
     /// At the start, and anew after a clear: moments may fall there.
@@ -65,15 +96,44 @@ impl Course {
         };
     }
 
+    /// A cleared table of many slots is filled first: one subscriber more than slots asks, while the clock stands.
+    fn gather(&mut self) {
+        if self.size != Size::Few {
+            self.to_come = self.slots as u32 + 1;
+        }
+    }
+
     /// The next call, after one that got this answer.
     pub fn next(&mut self, rng: &mut Rng, last: &Call, answer: &Answer) -> Call {
-        if rng.once_in(200) {
+        if self.to_come > 0 {
+            return self.newcomer(rng);
+        }
+        if rng.once_in(200 + 2 * self.slots as u64) {
+            self.gather();
             return Call::Clear;
         }
         if let Some(call) = self.after_the_wait(rng, last, answer) {
             return call;
         }
         self.tick(rng);
+        self.anybody(rng)
+    }
+
+    fn newcomer(&mut self, rng: &mut Rng) -> Call {
+        if rng.once_in(8) {
+            return self.anybody(rng);
+        }
+        let subscriber = self.to_come;
+        self.to_come -= 1;
+        Call::Acquire {
+            moment: self.moment,
+            subscriber,
+            cost: self.cost(rng),
+        }
+    }
+
+    /// A call of anybody; now and then one that is refused.
+    fn anybody(&self, rng: &mut Rng) -> Call {
         let mut moment = self.moment;
         let mut subscriber = rng.from(1, self.subscribers) as u32;
         let mut cost = self.cost(rng);
@@ -105,7 +165,7 @@ impl Course {
         else {
             return None;
         };
-        if answer[0] != 8 || !rng.once_in(3) {
+        if answer[0] != 8 || !rng.once_in(3 + self.slots as u64 / 16) {
             return None;
         }
         let moment = moment + answer[4] as u64 - rng.below(2);
@@ -127,10 +187,12 @@ impl Course {
     }
 
     fn tick(&mut self, rng: &mut Rng) {
-        let step = match rng.below(64) {
-            0 => self.drain,
-            1..=31 => 0,
-            _ => rng.from(0, self.pace),
+        let step = if rng.once_in(64 + self.slots as u64) {
+            self.drain
+        } else if rng.once_in(2) {
+            0
+        } else {
+            rng.from(0, self.pace)
         };
         self.moment = self.moment.saturating_add(step).min(LAST);
         if self.falls && rng.once_in(12) {

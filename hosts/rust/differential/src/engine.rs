@@ -5,12 +5,16 @@ use crate::call::{Call, Terms};
 use crate::ffi::{self, Out};
 use crate::lent::Lent;
 use crate::rng::Rng;
-use model::decision::Paced;
-use model::plan::Plan;
+use model::decision::{Bucket, Paced, Record};
+use model::plan::{div_up, Plan};
 use model::table::Stored;
+
+/// The engines' names, in the order of `Engine::PLACE`.
+pub const NAMES: [&str; 2] = [Paced::NAME, Bucket::NAME];
 
 pub trait Engine: Stored {
     const NAME: &'static str;
+    const PLACE: usize;
     fn call(terms: &Terms, table: &mut Lent, call: &Call) -> Out;
     /// Free at the moment, with nothing to spare.
     fn just_free(self, plan: &Plan, moment: u128) -> bool;
@@ -20,6 +24,7 @@ pub trait Engine: Stored {
 
 impl Engine for Paced {
     const NAME: &'static str = "gcra";
+    const PLACE: usize = 0;
 
     fn call(terms: &Terms, table: &mut Lent, call: &Call) -> Out {
         let (ids, tats) = (&mut table.ids, &mut table.columns[0]);
@@ -59,7 +64,93 @@ impl Engine for Paced {
             6 => u64::MAX as u128,
             _ => rng.next() as u128,
         };
-        let near = (bound + rng.below(3) as u128).saturating_sub(1);
-        Paced(near.min(u64::MAX as u128))
+        Paced(beside(rng, bound))
     }
+}
+
+impl Engine for Bucket {
+    const NAME: &'static str = "token-bucket";
+    const PLACE: usize = 1;
+
+    fn call(terms: &Terms, table: &mut Lent, call: &Call) -> Out {
+        let ids = &mut table.ids;
+        let (levels, lasts) = table.columns.split_at_mut(1);
+        let (levels, lasts) = (&mut levels[0], &mut lasts[0]);
+        match *call {
+            Call::Acquire {
+                moment,
+                subscriber,
+                cost,
+            } => ffi::token_bucket_acquire(
+                terms,
+                ids.inside_mut(),
+                levels.inside_mut(),
+                lasts.inside_mut(),
+                moment,
+                subscriber,
+                cost,
+            ),
+            Call::Peek { moment, subscriber } => ffi::token_bucket_peek(
+                terms,
+                ids.inside(),
+                levels.inside(),
+                lasts.inside(),
+                moment,
+                subscriber,
+            ),
+            Call::Clear => {
+                ffi::token_bucket_clear(ids.inside_mut(), levels.inside_mut(), lasts.inside_mut())
+            }
+        }
+    }
+
+    fn just_free(self, plan: &Plan, moment: u128) -> bool {
+        self.is_free(plan, moment) && self.level + (moment - self.last) * plan.limit == plan.full()
+    }
+
+    fn near_a_bound(rng: &mut Rng, plan: &Plan, moment: u128, cost: u128) -> Bucket {
+        if rng.once_in(4) {
+            return full_at(rng, plan, moment);
+        }
+        let last = last_near_a_bound(rng, moment);
+        let (full, refill) = (plan.full(), moment.saturating_sub(last) * plan.limit);
+        let bound = match rng.below(8) {
+            0 => 0,
+            1 => full,
+            2 => full + 1,
+            // the least level that is full by now, and the least on which the cost is admitted
+            3 => full.saturating_sub(refill),
+            4 => (plan.period * cost).saturating_sub(refill),
+            5 => rng.below(full.max(1) as u64) as u128,
+            6 => u64::MAX as u128,
+            _ => rng.next() as u128,
+        };
+        let level = beside(rng, bound);
+        Bucket { level, last }
+    }
+}
+
+/// A bucket of any level whose last admission is just long enough ago for it to be full, or a millisecond off.
+fn full_at(rng: &mut Rng, plan: &Plan, moment: u128) -> Bucket {
+    let level = rng.below(plan.full() as u64 + 1) as u128;
+    let ago = div_up(plan.full() - level, plan.limit);
+    let last = beside(rng, moment.saturating_sub(ago));
+    Bucket { level, last }
+}
+
+fn last_near_a_bound(rng: &mut Rng, moment: u128) -> u128 {
+    match rng.below(16) {
+        0 => 0,
+        1 => u64::MAX as u128,
+        2 => rng.next() as u128,
+        3..=7 => beside(rng, moment),
+        8..=10 => moment.saturating_sub(rng.below(1000) as u128),
+        _ => moment.saturating_sub(rng.of_any_size(moment.max(1) as u64) as u128),
+    }
+}
+
+/// The bound, or the number before or after it; stored numbers have 64 bits.
+fn beside(rng: &mut Rng, bound: u128) -> u128 {
+    let near = (bound + rng.below(3) as u128).saturating_sub(1);
+    near.min(u64::MAX as u128)
 }

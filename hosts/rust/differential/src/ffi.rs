@@ -42,7 +42,55 @@ extern "C" {
         tats_len: usize,
         out: *mut u64,
     );
+    fn railcadence_token_bucket_acquire(
+        limit: u32,
+        period: u32,
+        burst: u32,
+        ids: *mut u32,
+        ids_len: usize,
+        levels: *mut u64,
+        levels_len: usize,
+        lasts: *mut u64,
+        lasts_len: usize,
+        moment: u64,
+        subscriber: u32,
+        cost: u32,
+        out: *mut u64,
+    );
+    fn railcadence_token_bucket_peek(
+        limit: u32,
+        period: u32,
+        burst: u32,
+        ids: *const u32,
+        ids_len: usize,
+        levels: *const u64,
+        levels_len: usize,
+        lasts: *const u64,
+        lasts_len: usize,
+        moment: u64,
+        subscriber: u32,
+        out: *mut u64,
+    );
+    fn railcadence_token_bucket_clear(
+        ids: *mut u32,
+        ids_len: usize,
+        levels: *mut u64,
+        levels_len: usize,
+        lasts: *mut u64,
+        lasts_len: usize,
+        out: *mut u64,
+    );
 }
+
+/// What a call writes to `out`.
+fn answered(call: impl FnOnce(*mut u64)) -> Out {
+    let mut out = UNWRITTEN;
+    call(out.as_mut_ptr());
+    out
+}
+
+// SAFETY of each call below: the slices and `out` are distinct, each pointer goes with its own length, and a column that
+// is only read is lent as a constant.
 
 pub fn gcra_acquire(
     terms: &Terms,
@@ -52,9 +100,7 @@ pub fn gcra_acquire(
     subscriber: u32,
     cost: u32,
 ) -> Out {
-    let mut out = UNWRITTEN;
-    // SAFETY: the slices and `out` are distinct, and each pointer goes with its own length.
-    unsafe {
+    answered(|out| unsafe {
         railcadence_gcra_acquire(
             terms.limit,
             terms.period,
@@ -66,16 +112,13 @@ pub fn gcra_acquire(
             moment,
             subscriber,
             cost,
-            out.as_mut_ptr(),
-        );
-    }
-    out
+            out,
+        )
+    })
 }
 
 pub fn gcra_peek(terms: &Terms, ids: &[u32], tats: &[u64], moment: u64, subscriber: u32) -> Out {
-    let mut out = UNWRITTEN;
-    // SAFETY: as above; a peek only reads the columns.
-    unsafe {
+    answered(|out| unsafe {
         railcadence_gcra_peek(
             terms.limit,
             terms.period,
@@ -86,23 +129,87 @@ pub fn gcra_peek(terms: &Terms, ids: &[u32], tats: &[u64], moment: u64, subscrib
             tats.len(),
             moment,
             subscriber,
-            out.as_mut_ptr(),
-        );
-    }
-    out
+            out,
+        )
+    })
 }
 
 pub fn gcra_clear(ids: &mut [u32], tats: &mut [u64]) -> Out {
-    let mut out = UNWRITTEN;
-    // SAFETY: as above.
-    unsafe {
+    answered(|out| unsafe {
         railcadence_gcra_clear(
             ids.as_mut_ptr(),
             ids.len(),
             tats.as_mut_ptr(),
             tats.len(),
-            out.as_mut_ptr(),
-        );
-    }
-    out
+            out,
+        )
+    })
+}
+
+pub fn token_bucket_acquire(
+    terms: &Terms,
+    ids: &mut [u32],
+    levels: &mut [u64],
+    lasts: &mut [u64],
+    moment: u64,
+    subscriber: u32,
+    cost: u32,
+) -> Out {
+    answered(|out| unsafe {
+        railcadence_token_bucket_acquire(
+            terms.limit,
+            terms.period,
+            terms.burst,
+            ids.as_mut_ptr(),
+            ids.len(),
+            levels.as_mut_ptr(),
+            levels.len(),
+            lasts.as_mut_ptr(),
+            lasts.len(),
+            moment,
+            subscriber,
+            cost,
+            out,
+        )
+    })
+}
+
+pub fn token_bucket_peek(
+    terms: &Terms,
+    ids: &[u32],
+    levels: &[u64],
+    lasts: &[u64],
+    moment: u64,
+    subscriber: u32,
+) -> Out {
+    answered(|out| unsafe {
+        railcadence_token_bucket_peek(
+            terms.limit,
+            terms.period,
+            terms.burst,
+            ids.as_ptr(),
+            ids.len(),
+            levels.as_ptr(),
+            levels.len(),
+            lasts.as_ptr(),
+            lasts.len(),
+            moment,
+            subscriber,
+            out,
+        )
+    })
+}
+
+pub fn token_bucket_clear(ids: &mut [u32], levels: &mut [u64], lasts: &mut [u64]) -> Out {
+    answered(|out| unsafe {
+        railcadence_token_bucket_clear(
+            ids.as_mut_ptr(),
+            ids.len(),
+            levels.as_mut_ptr(),
+            levels.len(),
+            lasts.as_mut_ptr(),
+            lasts.len(),
+            out,
+        )
+    })
 }

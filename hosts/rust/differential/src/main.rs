@@ -1,5 +1,5 @@
 //! Compares the proved archive, through its C interface, with the second implementation: after every call the answer and
-//! every column. `options::USAGE` says how to run it.
+//! every column; and over a run both engines with the book. `options::USAGE` says how to run it.
 
 mod call;
 mod choose;
@@ -7,6 +7,7 @@ mod compare;
 mod course;
 mod engine;
 mod ffi;
+mod joint;
 mod lent;
 mod options;
 mod rng;
@@ -18,53 +19,63 @@ mod tally;
 mod trial;
 
 use compare::Difference;
-use engine::Engine;
-use model::decision::Paced;
 use options::{Options, Wish};
 use std::env;
+use std::io::{self, Write};
 use std::process::ExitCode;
-use tally::{Kind, Tally, FALLING, RISING, SINGLE, STEADY};
+use tally::{Kind, Tally, BETWEEN, FALLING, RISING, SINGLE, STEADY, WIDE};
 use trial::Trial;
 
 type Run = fn(&mut Trial) -> Result<(), Difference>;
 
-/// Every kind of run with one engine; the tallies for the report.
-fn compare_all<E: Engine>(options: &Options) -> Result<Vec<Tally>, Difference> {
+/// Every kind of run; the tallies for the report.
+fn compare_all(options: &Options) -> Result<Vec<Tally>, Difference> {
     let part = |percent| options.calls / 100 * percent;
-    let kinds: [(Kind, u64, Run); 4] = [
-        (STEADY, 3001, steady::run::<E>),
-        (SINGLE, part(60), single::run::<E>),
-        (RISING, part(25), runs::rising::<E>),
-        (FALLING, part(15), runs::falling::<E>),
+    let kinds: [(&Kind, u64, Run); 6] = [
+        (&SINGLE, part(55), single::run),
+        (&RISING, part(25), runs::rising),
+        (&FALLING, part(10), runs::falling),
+        (&BETWEEN, part(5), runs::between),
+        (&WIDE, part(5), runs::wide),
+        (&STEADY, 3001, steady::run),
     ];
-    let spoil = options.spoil.as_ref().map(|(_, kind)| *kind);
+    let spoil = options.spoil.as_ref().map(|(_, spoil)| *spoil);
     let mut tallies = Vec::new();
     for (kind, calls, run) in kinds {
         let mut trial = Trial::new(kind, options.seed, calls, spoil);
         run(&mut trial)?;
-        tallies.push(trial.tally);
+        tallies.extend(trial.tallies);
     }
     Ok(tallies)
 }
 
-/// Prints how often each number occurred, and says which did not.
-fn report(name: &str, tallies: &[Tally]) -> Vec<String> {
+/// How often each number occurred.
+fn report(tallies: &[Tally]) -> String {
     let total: u64 = tallies.iter().map(Tally::total).sum();
-    println!("{name}: {total} calls agree; how often each number was answered:");
-    println!("{}", Tally::header());
-    for tally in tallies {
-        print!("{}", tally.lines());
-    }
-    tallies.iter().flat_map(Tally::missing).collect()
+    let lines: String = tallies.iter().map(Tally::lines).collect();
+    format!(
+        "{total} calls agree; how often each number was answered:\n{}\n{lines}",
+        Tally::header()
+    )
 }
 
-/// One engine, and with what exit status it fails.
-fn run<E: Engine>(options: &Options) -> Result<(), u8> {
-    let tallies = compare_all::<E>(options).map_err(|difference| {
+/// Writes to standard output; if that fails, says so, and with what exit status to end.
+fn say(text: &str) -> Result<(), u8> {
+    io::stdout().write_all(text.as_bytes()).map_err(|error| {
+        eprintln!("standard output cannot be written: {error}");
+        2
+    })
+}
+
+/// The whole comparison, and with what exit status it fails.
+fn run(options: &Options) -> Result<(), u8> {
+    say(&format!("{}\n", options.again()))?;
+    let tallies = compare_all(options).map_err(|difference| {
         eprintln!("{difference}The same again: {}", options.again());
         1
     })?;
-    let missing = report(E::NAME, &tallies);
+    say(&report(&tallies))?;
+    let missing: Vec<String> = tallies.iter().flat_map(Tally::missing).collect();
     if missing.is_empty() {
         return Ok(());
     }
@@ -76,21 +87,13 @@ fn run<E: Engine>(options: &Options) -> Result<(), u8> {
 }
 
 fn main() -> ExitCode {
-    let options = match options::read(env::args().skip(1)) {
-        Ok(Wish::Run(options)) => options,
-        Ok(Wish::List) => {
-            print!("{}", spoil::LIST);
-            return ExitCode::SUCCESS;
-        }
+    let ended = match options::read(env::args().skip(1)) {
+        Ok(Wish::Run(options)) => run(&options),
+        Ok(Wish::List) => say(&spoil::list()),
         Err(words) => {
             eprintln!("{words}\n{}", options::USAGE);
-            return ExitCode::from(2);
+            Err(2)
         }
     };
-    println!("{}", options.again());
-    let engines = [run::<Paced>];
-    match engines.iter().try_for_each(|run| run(&options)) {
-        Ok(()) => ExitCode::SUCCESS,
-        Err(status) => ExitCode::from(status),
-    }
+    ended.map_or_else(ExitCode::from, |()| ExitCode::SUCCESS)
 }

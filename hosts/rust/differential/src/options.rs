@@ -1,15 +1,17 @@
 //! The command line.
 
-use crate::spoil::{self, Spoil};
+use crate::spoil::Spoil;
 use std::time::{SystemTime, UNIX_EPOCH};
 
 pub const USAGE: &str = "\
-differential [--seed N] [--calls N] [--spoil KIND]
-  Compares the archive with the second implementation, call by call, through the C interface.
-  --seed N      the same calls again; without it the seed is taken from the time, and printed
-  --calls N     how many calls (default 2000000)
-  --spoil KIND  tries the comparison itself with one deliberate fault; '--spoil list' lists the kinds
-Ends with 0 if all agree, 1 at the first difference, 2 if not called as above, and 3 if an outcome never occurred.";
+differential [--seed N] [--calls N] [--spoil FAULT]
+  Compares the archive with the second implementation, call by call, through the C interface; and over a run the two
+  engines with each other and with the book.
+  --seed N       the same calls again; without it the seed is taken from the time, and printed
+  --calls N      how many calls, of both engines together (default 4000000)
+  --spoil FAULT  tries the comparison itself with one deliberate fault; '--spoil list' lists them
+Ends with 0 if all agree, 1 at the first difference, 2 if not called as above or if standard output cannot be written,
+and 3 if an outcome never occurred.";
 
 pub struct Options {
     pub seed: u64,
@@ -38,7 +40,7 @@ pub fn read(mut words: impl Iterator<Item = String>) -> Result<Wish, String> {
     let now = SystemTime::now().duration_since(UNIX_EPOCH);
     let mut options = Options {
         seed: now.map_or(0, |since| since.as_nanos() as u64),
-        calls: 2_000_000,
+        calls: 4_000_000,
         spoil: None,
     };
     while let Some(word) = words.next() {
@@ -48,8 +50,8 @@ pub fn read(mut words: impl Iterator<Item = String>) -> Result<Wish, String> {
             "--calls" => options.calls = number(&value)?,
             "--spoil" if value == "list" => return Ok(Wish::List),
             "--spoil" => {
-                let kind = spoil::by_name(&value).ok_or(format!("no fault is named '{value}'"))?;
-                options.spoil = Some((value, kind));
+                let spoil = Spoil::by_name(&value).ok_or(format!("no fault is named '{value}'"))?;
+                options.spoil = Some((value, spoil));
             }
             _ => return Err(format!("there is no option '{word}'")),
         }

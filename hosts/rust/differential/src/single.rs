@@ -1,14 +1,16 @@
-//! Single calls, each on a damaged table of its own.
+//! Single calls, each on a damaged table of its own, of either engine in turn.
 
 use crate::call::Call;
 use crate::choose::{self, Around};
 use crate::compare::{Difference, Pair};
 use crate::engine::Engine;
 use crate::trial::Trial;
+use model::decision::{Bucket, Paced};
 
-pub fn run<E: Engine>(trial: &mut Trial) -> Result<(), Difference> {
+pub fn run(trial: &mut Trial) -> Result<(), Difference> {
     while trial.more() {
-        one::<E>(trial)?;
+        one::<Paced>(trial)?;
+        one::<Bucket>(trial)?;
     }
     Ok(())
 }
@@ -39,7 +41,8 @@ fn one<E: Engine>(trial: &mut Trial) -> Result<(), Difference> {
             cost,
         },
     };
-    let answer = Pair::new(terms, table, trial.spoil).call(&call)?;
-    trial.count(&call, answer[0]);
+    let mut pair = Pair::new(terms, table, trial.spoil);
+    let answer = pair.call(&call)?;
+    trial.count(&pair, &call, &answer);
     Ok(())
 }

@@ -4,17 +4,19 @@ use crate::call::Call;
 use crate::engine::Engine;
 use crate::ffi::Out;
 use crate::lent::Lent;
+use model::decision::{Bucket, Paced};
 use model::plan::Plan;
 use model::table::Table;
 
 #[derive(Clone, Copy, PartialEq, Eq)]
-pub enum Spoil {
+pub enum Fault {
     WaitShort,
     LeftMore,
     ResetLate,
     Nobody,
     FullForCorrupt,
     DenialWrites,
+    DenialRefills,
     Neighbour,
     ClearShort,
     ClearEager,
@@ -23,17 +25,19 @@ pub enum Spoil {
     PeekLeft,
     PeekWrites,
     Outside,
-    BookDeaf,
+    Nonsense,
+    Deaf,
 }
 
-/// Each fault by its name on the command line, and in words.
-pub const LIST: &str = "\
+/// Each fault by its name, and in words.
+const FAULTS: &str = "\
 wait-short        the wait under 8 is one too short
 left-more         acquire reports one unit too many left
 reset-late        acquire reports a reset one too late
 nobody            a refusal names subscriber 0
 full-for-corrupt  number 9 in place of 7
 denial-writes     the record is written under 8
+denial-refills    the refilled level and the moment are written under 8
 neighbour         an admission writes in the slot beside its own
 clear-short       a clear leaves the last slot
 clear-eager       a refused clear empties the ids
@@ -42,28 +46,82 @@ unwritten         an admission is not written
 peek-left         peek reports one unit too many left
 peek-writes       a peek writes in the subscriber's slot
 outside           an admission writes beyond the end of the ids
-book-deaf         the book is not told of acquires of cost 1
+nonsense          acquire reports a reset one too late, and the model does too
+deaf              the book is not told of acquires of cost 1
 ";
 
-pub fn by_name(name: &str) -> Option<Spoil> {
+fn fault(name: &str) -> Option<Fault> {
     Some(match name {
-        "wait-short" => Spoil::WaitShort,
-        "left-more" => Spoil::LeftMore,
-        "reset-late" => Spoil::ResetLate,
-        "nobody" => Spoil::Nobody,
-        "full-for-corrupt" => Spoil::FullForCorrupt,
-        "denial-writes" => Spoil::DenialWrites,
-        "neighbour" => Spoil::Neighbour,
-        "clear-short" => Spoil::ClearShort,
-        "clear-eager" => Spoil::ClearEager,
-        "free-strict" => Spoil::FreeStrict,
-        "unwritten" => Spoil::Unwritten,
-        "peek-left" => Spoil::PeekLeft,
-        "peek-writes" => Spoil::PeekWrites,
-        "outside" => Spoil::Outside,
-        "book-deaf" => Spoil::BookDeaf,
+        "wait-short" => Fault::WaitShort,
+        "left-more" => Fault::LeftMore,
+        "reset-late" => Fault::ResetLate,
+        "nobody" => Fault::Nobody,
+        "full-for-corrupt" => Fault::FullForCorrupt,
+        "denial-writes" => Fault::DenialWrites,
+        "denial-refills" => Fault::DenialRefills,
+        "neighbour" => Fault::Neighbour,
+        "clear-short" => Fault::ClearShort,
+        "clear-eager" => Fault::ClearEager,
+        "free-strict" => Fault::FreeStrict,
+        "unwritten" => Fault::Unwritten,
+        "peek-left" => Fault::PeekLeft,
+        "peek-writes" => Fault::PeekWrites,
+        "outside" => Fault::Outside,
+        "nonsense" => Fault::Nonsense,
+        "deaf" => Fault::Deaf,
         _ => return None,
     })
+}
+
+const BOTH: &str = "both";
+const BOOK: &str = "book";
+
+/// Where a fault is tried: in one engine, in both at once, or in the book. The refilled level is a mistake of the token
+/// bucket alone; and nonsense of both engines alike shows against the book alone.
+fn places(fault: Fault) -> &'static [&'static str] {
+    match fault {
+        Fault::Deaf => &[BOOK],
+        Fault::DenialRefills => &[Bucket::NAME],
+        Fault::Nonsense => &[Paced::NAME, Bucket::NAME, BOTH],
+        _ => &[Paced::NAME, Bucket::NAME],
+    }
+}
+
+/// A fault and its place; on the command line PLACE:FAULT.
+#[derive(Clone, Copy)]
+pub struct Spoil {
+    place: &'static str,
+    fault: Fault,
+}
+
+impl Spoil {
+    pub fn by_name(name: &str) -> Option<Spoil> {
+        let (place, fault_name) = name.split_once(':')?;
+        let fault = fault(fault_name)?;
+        let place = places(fault).iter().find(|known| **known == place)?;
+        Some(Spoil { place, fault })
+    }
+
+    /// The fault that an engine has.
+    pub fn of_engine(self, name: &str) -> Option<Fault> {
+        (self.place == name || self.place == BOTH).then_some(self.fault)
+    }
+
+    /// Whether it keeps this call from the book.
+    pub fn keeps_from_the_book(self, call: &Call) -> bool {
+        self.fault == Fault::Deaf && matches!(call, Call::Acquire { cost: 1, .. })
+    }
+}
+
+/// A line for each fault at each of its places.
+pub fn list() -> String {
+    let mut text = String::new();
+    for (name, words) in FAULTS.lines().filter_map(|line| line.split_once(' ')) {
+        for place in fault(name).map_or(&[][..], places) {
+            text += &format!("{:30}{}\n", format!("{place}:{name}"), words.trim());
+        }
+    }
+    text
 }
 
 /// One call as the archive did it: the table before and after, and the answer.
@@ -76,28 +134,29 @@ pub struct Done<'a, E> {
 }
 
 impl<E: Engine> Done<'_, E> {
-    pub fn spoil(&mut self, spoil: Spoil) {
+    pub fn spoil(&mut self, fault: Fault) {
         match self.call {
-            Call::Acquire { moment, .. } => self.spoil_acquire(spoil, *moment as u128),
-            Call::Peek { .. } => self.spoil_peek(spoil),
-            Call::Clear => self.spoil_clear(spoil),
+            Call::Acquire { moment, .. } => self.spoil_acquire(fault, *moment as u128),
+            Call::Peek { .. } => self.spoil_peek(fault),
+            Call::Clear => self.spoil_clear(fault),
         }
-        if spoil == Spoil::Nobody && matches!(self.out[0], 1..=7 | 9) {
+        if fault == Fault::Nobody && matches!(self.out[0], 1..=7 | 9) {
             self.out[1] = 0;
         }
     }
 
-    fn spoil_acquire(&mut self, spoil: Spoil, moment: u128) {
-        match (spoil, self.out[0]) {
-            (Spoil::WaitShort, 8) => self.out[4] -= 1,
-            (Spoil::LeftMore, 0 | 8) => self.out[2] += 1,
-            (Spoil::ResetLate, 0 | 8) => self.out[3] += 1,
-            (Spoil::FullForCorrupt, 7) => self.out[0] = 9,
-            (Spoil::DenialWrites, 8) => self.touch(self.own()),
-            (Spoil::Neighbour, 0) => self.touch(self.own() ^ 1),
-            (Spoil::Unwritten, 0) => *self.after = Lent::new(self.before),
-            (Spoil::Outside, 0) => self.after.ids.overrun(0),
-            (Spoil::FreeStrict, 0) if self.took_just_free(moment) => {
+    fn spoil_acquire(&mut self, fault: Fault, moment: u128) {
+        match (fault, self.out[0]) {
+            (Fault::WaitShort, 8) => self.out[4] -= 1,
+            (Fault::LeftMore, 0 | 8) => self.out[2] += 1,
+            (Fault::ResetLate | Fault::Nonsense, 0 | 8) => self.out[3] += 1,
+            (Fault::FullForCorrupt, 7) => self.out[0] = 9,
+            (Fault::DenialWrites, 8) => self.touch(0, self.own()),
+            (Fault::DenialRefills, 8) => self.refill(moment),
+            (Fault::Neighbour, 0) => self.touch(0, self.own() ^ 1),
+            (Fault::Unwritten, 0) => *self.after = Lent::new(self.before),
+            (Fault::Outside, 0) => self.after.ids.overrun(0),
+            (Fault::FreeStrict, 0) if self.took_just_free(moment) => {
                 *self.after = Lent::new(self.before);
                 *self.out = [9, self.out[1], 0, 0, 0];
             }
@@ -105,21 +164,21 @@ impl<E: Engine> Done<'_, E> {
         }
     }
 
-    fn spoil_peek(&mut self, spoil: Spoil) {
-        match (spoil, self.out[0]) {
-            (Spoil::PeekLeft, 0) => self.out[2] += 1,
-            (Spoil::PeekWrites, 0) => self.touch(self.own()),
+    fn spoil_peek(&mut self, fault: Fault) {
+        match (fault, self.out[0]) {
+            (Fault::PeekLeft, 0) => self.out[2] += 1,
+            (Fault::PeekWrites, 0) => self.touch(E::COLUMNS.len() - 1, self.own()),
             _ => (),
         }
     }
 
-    fn spoil_clear(&mut self, spoil: Spoil) {
-        match (spoil, self.out[0]) {
-            (Spoil::ClearShort, 0) => {
+    fn spoil_clear(&mut self, fault: Fault) {
+        match (fault, self.out[0]) {
+            (Fault::ClearShort, 0) => {
                 let last = self.before.ids.len() - 1;
                 self.after.ids.inside_mut()[last] = self.before.ids[last];
             }
-            (Spoil::ClearEager, 2) => self.after.ids.inside_mut().fill(0),
+            (Fault::ClearEager, 2) => self.after.ids.inside_mut().fill(0),
             _ => (),
         }
     }
@@ -131,10 +190,23 @@ impl<E: Engine> Done<'_, E> {
         own.unwrap_or(ids.len())
     }
 
-    /// Writes in the record of a slot, where the table has one.
-    fn touch(&mut self, slot: usize) {
-        if let Some(cell) = self.after.columns[0].inside_mut().get_mut(slot) {
+    /// Writes in one number of a slot's record, where the table has the slot.
+    fn touch(&mut self, column: usize, slot: usize) {
+        if let Some(cell) = self.after.columns[column].inside_mut().get_mut(slot) {
             *cell = cell.wrapping_add(1);
+        }
+    }
+
+    /// Writes the subscriber's record as an admission of cost 0 would.
+    fn refill(&mut self, moment: u128) {
+        let (slot, mut table) = (self.own(), self.before.clone());
+        if slot == table.ids.len() {
+            return;
+        }
+        let record = E::load(&table.columns, slot);
+        if let Some(refilled) = record.spend(self.plan, moment, 0) {
+            refilled.store(&mut table.columns, slot);
+            *self.after = Lent::new(&table);
         }
     }
 

@@ -2,35 +2,35 @@
 //! exactly 40 are admitted.
 
 use crate::call::{Call, Terms};
-use crate::compare::{Difference, Pair};
-use crate::engine::Engine;
+use crate::compare::Difference;
+use crate::joint::Joint;
 use crate::trial::Trial;
-use model::table::Table;
 
-pub fn run<E: Engine>(trial: &mut Trial) -> Result<(), Difference> {
+pub fn run(trial: &mut Trial) -> Result<(), Difference> {
     let terms = Terms {
         limit: 10,
         period: 1000,
         burst: 10,
     };
-    let mut pair = Pair::new(terms, Table::<E>::cleared(1), trial.spoil);
-    let mut admitted = 0;
+    let mut joint = Joint::new(trial, terms, 1, false);
+    joint.call(trial, &Call::Clear)?;
+    let mut admitted = [0, 0];
     for moment in 0..=3000 {
         let call = Call::Acquire {
             moment,
             subscriber: 7,
             cost: 1,
         };
-        let answer = pair.call(&call)?;
-        trial.count(&call, answer[0]);
-        admitted += u64::from(answer[0] == 0);
+        let answers = joint.call(trial, &call)?;
+        for (count, answer) in admitted.iter_mut().zip(answers) {
+            *count += u64::from(answer[0] == 0);
+        }
     }
-    if admitted == 40 {
+    if admitted == [40, 40] {
         Ok(())
     } else {
         Err(format!(
-            "{}: document 001's case admits {admitted} and not 40\n",
-            E::NAME
+            "document 001's case: the engines admit {admitted:?}, and not 40 each\n"
         ))
     }
 }

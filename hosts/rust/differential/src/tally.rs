@@ -1,18 +1,22 @@
-//! How often each number was answered, by kind of run and by call; and which numbers must have been.
+//! How often each number was answered and a slot taken over, by kind of run, engine and call; and which must have been.
 
 use crate::call::Call;
 
-/// A kind of run, and the numbers that its acquires, peeks and clears must reach.
+/// A kind of run, and what its acquires, peeks and clears must reach: numbers, and the place after them for an admission
+/// that takes over the slot of another who owes nothing any more.
 pub struct Kind {
     pub name: &'static str,
     pub reach: [&'static [usize]; 3],
 }
 
+const TAKEOVER: usize = 10;
+const NAMES: [&str; 11] = ["0", "1", "2", "3", "4", "5", "6", "7", "8", "9", "takeover"];
+
 /// Single calls on damaged tables reach everything.
 pub const SINGLE: Kind = Kind {
     name: "single",
     reach: [
-        &[0, 1, 2, 3, 4, 5, 6, 7, 8, 9],
+        &[0, 1, 2, 3, 4, 5, 6, 7, 8, 9, TAKEOVER],
         &[0, 1, 2, 3, 4, 7],
         &[0, 2],
     ],
@@ -21,52 +25,75 @@ pub const SINGLE: Kind = Kind {
 /// A run starts with a cleared table, so 2 cannot occur; and no record is impossible while the clock rises.
 pub const RISING: Kind = Kind {
     name: "rising",
-    reach: [&[0, 1, 3, 4, 5, 6, 8, 9], &[0, 1, 3, 4], &[0]],
+    reach: [&[0, 1, 3, 4, 5, 6, 8, 9, TAKEOVER], &[0, 1, 3, 4], &[0]],
 };
 
 pub const FALLING: Kind = Kind {
     name: "falling",
-    reach: [&[0, 1, 3, 4, 5, 6, 7, 8, 9], &[0, 1, 3, 4, 7], &[0]],
+    reach: [
+        &[0, 1, 3, 4, 5, 6, 7, 8, 9, TAKEOVER],
+        &[0, 1, 3, 4, 7],
+        &[0],
+    ],
 };
+
+/// Tables of 41 to 4,095 slots.
+pub const BETWEEN: Kind = Kind {
+    name: "between",
+    reach: CROWDED,
+};
+
+/// Tables of exactly 4,096 slots, so that a 9 here is one where all of them are taken.
+pub const WIDE: Kind = Kind {
+    name: "wide",
+    reach: CROWDED,
+};
+
+const CROWDED: [&[usize]; 3] = [&[0, 8, 9, TAKEOVER], &[0], &[0]];
 
 /// Document 001's case.
 pub const STEADY: Kind = Kind {
     name: "steady",
-    reach: [&[0, 8], &[], &[]],
+    reach: [&[0, 8], &[], &[0]],
 };
 
 const CALLS: [&str; 3] = ["acquire", "peek", "clear"];
 
+/// The counts of one engine.
 pub struct Tally {
-    kind: Kind,
-    counts: [[u64; 10]; 3],
+    kind: &'static Kind,
+    engine: &'static str,
+    counts: [[u64; 11]; 3],
 }
 
 impl Tally {
-    pub fn new(kind: Kind) -> Tally {
+    pub fn new(kind: &'static Kind, engine: &'static str) -> Tally {
         Tally {
             kind,
-            counts: [[0; 10]; 3],
+            engine,
+            counts: [[0; 11]; 3],
         }
     }
 
     /// Counts an answer that was compared, so its number is one of document 01's.
-    pub fn count(&mut self, call: &Call, number: u128) {
+    pub fn count(&mut self, call: &Call, number: u128, took_over: bool) {
         let row = match call {
             Call::Acquire { .. } => 0,
             Call::Peek { .. } => 1,
             Call::Clear => 2,
         };
         self.counts[row][number as usize] += 1;
+        self.counts[row][TAKEOVER] += u64::from(took_over);
     }
 
     pub fn total(&self) -> u64 {
-        self.counts.iter().flatten().sum()
+        let numbers = self.counts.iter().flat_map(|counts| &counts[..TAKEOVER]);
+        numbers.sum()
     }
 
     pub fn header() -> String {
-        let numbers: String = (0..10).map(|number| format!("{number:>9}")).collect();
-        format!("{:16}{numbers}", "")
+        let names: String = NAMES.iter().map(|name| format!("{name:>9}")).collect();
+        format!("{:30}{names}", "")
     }
 
     /// A line for each call that was made.
@@ -75,19 +102,21 @@ impl Tally {
         for (call, counts) in CALLS.iter().zip(&self.counts) {
             if counts.iter().any(|&count| count > 0) {
                 let cells: String = counts.iter().map(|count| format!("{count:>9}")).collect();
-                text += &format!("{:8}{call:8}{cells}\n", self.kind.name);
+                let (kind, engine) = (self.kind.name, self.engine);
+                text += &format!("{kind:8} {engine:12} {call:8}{cells}\n");
             }
         }
         text
     }
 
-    /// The numbers that should have occurred and did not, in words.
+    /// What should have occurred and did not, in words.
     pub fn missing(&self) -> Vec<String> {
         let mut missing = Vec::new();
         for ((call, counts), reach) in CALLS.iter().zip(&self.counts).zip(self.kind.reach) {
-            for &number in reach {
-                if counts[number] == 0 {
-                    missing.push(format!("{} {call} {number}", self.kind.name));
+            for &place in reach {
+                if counts[place] == 0 {
+                    let (kind, engine) = (self.kind.name, self.engine);
+                    missing.push(format!("{kind} {engine} {call} {}", NAMES[place]));
                 }
             }
         }

@@ -1,9 +1,12 @@
 //! What every kind of run has: random numbers, the fault under trial, the count of outcomes, and a word on where it is.
 
 use crate::call::Call;
+use crate::compare::Pair;
+use crate::engine::{Engine, NAMES};
 use crate::rng::Rng;
 use crate::spoil::Spoil;
 use crate::tally::{Kind, Tally};
+use model::table::Answer;
 use std::time::{Duration, Instant};
 
 const EVERY: Duration = Duration::from_secs(10);
@@ -11,34 +14,38 @@ const EVERY: Duration = Duration::from_secs(10);
 pub struct Trial {
     pub rng: Rng,
     pub spoil: Option<Spoil>,
-    pub tally: Tally,
-    /// How many calls the kind of run is to make, or a few more.
-    pub calls: u64,
+    /// One for each engine.
+    pub tallies: [Tally; 2],
+    /// How many calls of both engines the kind of run is to make, or a few more.
+    calls: u64,
+    done: u64,
     name: &'static str,
     spoken: Instant,
 }
 
 impl Trial {
-    pub fn new(kind: Kind, seed: u64, calls: u64, spoil: Option<Spoil>) -> Trial {
+    pub fn new(kind: &'static Kind, seed: u64, calls: u64, spoil: Option<Spoil>) -> Trial {
         Trial {
             rng: Rng::new(seed),
             spoil,
+            tallies: NAMES.map(|engine| Tally::new(kind, engine)),
             calls,
+            done: 0,
             name: kind.name,
-            tally: Tally::new(kind),
             spoken: Instant::now(),
         }
     }
 
     pub fn more(&self) -> bool {
-        self.tally.total() < self.calls
+        self.done < self.calls
     }
 
-    pub fn count(&mut self, call: &Call, number: u128) {
-        self.tally.count(call, number);
-        let done = self.tally.total();
-        if done.is_multiple_of(4096) && self.spoken.elapsed() > EVERY {
-            eprintln!("{}: {done} calls of {}", self.name, self.calls);
+    /// Counts a call of an engine that got this answer.
+    pub fn count<E: Engine>(&mut self, pair: &Pair<E>, call: &Call, answer: &Answer) {
+        self.tallies[E::PLACE].count(call, answer[0], pair.took_over());
+        self.done += 1;
+        if self.done.is_multiple_of(4096) && self.spoken.elapsed() > EVERY {
+            eprintln!("{}: {} calls of {}", self.name, self.done, self.calls);
             self.spoken = Instant::now();
         }
     }
