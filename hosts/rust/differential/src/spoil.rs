@@ -17,6 +17,7 @@ pub enum Fault {
     FullForCorrupt,
     DenialWrites,
     DenialRefills,
+    LastLate,
     Neighbour,
     ClearShort,
     ClearEager,
@@ -38,6 +39,7 @@ nobody            a refusal names subscriber 0
 full-for-corrupt  number 9 in place of 7
 denial-writes     the record is written under 8
 denial-refills    the refilled level and the moment are written under 8
+last-late         an admission writes a last moment one too late
 neighbour         an admission writes in the slot beside its own
 clear-short       a clear leaves the last slot
 clear-eager       a refused clear empties the ids
@@ -59,6 +61,7 @@ fn fault(name: &str) -> Option<Fault> {
         "full-for-corrupt" => Fault::FullForCorrupt,
         "denial-writes" => Fault::DenialWrites,
         "denial-refills" => Fault::DenialRefills,
+        "last-late" => Fault::LastLate,
         "neighbour" => Fault::Neighbour,
         "clear-short" => Fault::ClearShort,
         "clear-eager" => Fault::ClearEager,
@@ -76,12 +79,12 @@ fn fault(name: &str) -> Option<Fault> {
 const BOTH: &str = "both";
 const BOOK: &str = "book";
 
-/// Where a fault is tried: in one engine, in both at once, or in the book. The refilled level is a mistake of the token
-/// bucket alone; and nonsense of both engines alike shows against the book alone.
+/// Where a fault is tried: in one engine, in both at once, or in the book. The refilled level and the last moment are the
+/// token bucket's alone; and nonsense of both engines alike shows against the book alone.
 fn places(fault: Fault) -> &'static [&'static str] {
     match fault {
         Fault::Deaf => &[BOOK],
-        Fault::DenialRefills => &[Bucket::NAME],
+        Fault::DenialRefills | Fault::LastLate => &[Bucket::NAME],
         Fault::Nonsense => &[Paced::NAME, Bucket::NAME, BOTH],
         _ => &[Paced::NAME, Bucket::NAME],
     }
@@ -153,6 +156,7 @@ impl<E: Engine> Done<'_, E> {
             (Fault::FullForCorrupt, 7) => self.out[0] = 9,
             (Fault::DenialWrites, 8) => self.touch(0, self.own()),
             (Fault::DenialRefills, 8) => self.refill(moment),
+            (Fault::LastLate, 0) => self.touch(1, self.own()),
             (Fault::Neighbour, 0) => self.touch(0, self.own() ^ 1),
             (Fault::Unwritten, 0) => *self.after = Lent::new(self.before),
             (Fault::Outside, 0) => self.after.ids.overrun(0),
