@@ -1,0 +1,8 @@
+-- The laws of tabbed text, lowest first.
+pub mod Scanning
+pub mod Splitting
+pub mod Reading
+pub mod Within
+pub mod Digits
+pub mod Writing
+pub mod WrittenRead

@@ -1,0 +1,4 @@
+-- What a reader must believe of tabbed text.
+pub mod Text
+pub mod Decimal
+pub mod Fields
