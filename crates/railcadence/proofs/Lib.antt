@@ -1,0 +1,2 @@
+-- Why the program's buffers suffice.
+pub mod Suffices
