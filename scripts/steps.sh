@@ -1,4 +1,4 @@
-# What ./run and ./test share; they source it with `root` set to the repository's root.
+# What ./run, ./test and ./bench share; they source it with `root` set to the repository's root.
 # step WORDS: says where the work is. fail WORDS: says what went wrong, and stops.
 started=$(date +%s)
 step() { printf '[%4ds] %s\n' "$(($(date +%s) - started))" "$*" >&2; }
@@ -29,6 +29,24 @@ build_archive() {
         fail "the C interface could not be proved and built: the last lines of build/archive.log are above"
     }
     cp "$root/target/staticlib/librailcadence_c.a" "$build/"
+}
+
+# the proved text program, kept where rt ci does not remove it; what has not changed since it was proved is not proved again
+build_program() {
+    (cd "$root" && rt check railcadence) >"$build/program.log" 2>&1 || {
+        tail -n 20 "$build/program.log" >&2
+        fail "the text program could not be proved and built: the last lines of build/program.log are above"
+    }
+    # a program that is running cannot be written over, only replaced
+    cp "$root/target/bin/railcadence" "$build/railcadence.new"
+    mv "$build/railcadence.new" "$build/railcadence"
+}
+
+# build_rust FOLDER: builds the package in hosts/rust/FOLDER; its programs are then in $rust
+rust=$CARGO_TARGET_DIR/release
+build_rust() {
+    cargo build --quiet --release --offline --manifest-path "$root/hosts/rust/$1/Cargo.toml" ||
+        fail "the package hosts/rust/$1 does not build"
 }
 
 build_example() {

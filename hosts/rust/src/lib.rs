@@ -8,3 +8,4 @@ pub mod decision;
 mod example;
 pub mod plan;
 pub mod table;
+pub mod text;

@@ -1,0 +1,142 @@
+//! How often each number was answered, by kind of case, and how many lines of each sort there were; and what of this must
+//! have occurred.
+
+use crate::cases::Kind;
+use crate::text::{begins_a_run, lines};
+
+/// What a line is to the reader; of the unreadable ones, the first sort that fits.
+#[derive(Clone, Copy)]
+enum Sort {
+    GoodFirst,
+    RefusedFirst,
+    UnreadableFirst,
+    AfterTheEnd,
+    Ask,
+    WithoutLf,
+    TooLong,
+    Empty,
+    WithCr,
+    WithNul,
+    SecondPlan,
+    FourFields,
+    Other,
+}
+
+use Sort::*;
+
+const SORTS: [(Sort, &str); 13] = [
+    (GoodFirst, "good first line"),
+    (RefusedFirst, "first line refused with 1 or 2"),
+    (UnreadableFirst, "first line unreadable"),
+    (AfterTheEnd, "line after the end of the run"),
+    (Ask, "ask that can be read"),
+    (WithoutLf, "unreadable: without LF"),
+    (TooLong, "unreadable: longer than 128 bytes"),
+    (Empty, "unreadable: empty"),
+    (WithCr, "unreadable: CR at its end"),
+    (WithNul, "unreadable: with a NUL"),
+    (SecondPlan, "unreadable: a second plan line"),
+    (FourFields, "unreadable: an ask of four fields"),
+    (Other, "unreadable: other"),
+];
+
+const UNREADABLE: usize = 10;
+
+pub struct Tally {
+    pub cases: u64,
+    /// By kind of case, and by number.
+    numbers: Vec<(&'static str, &'static [usize], [u64; 11])>,
+    sorts: [u64; SORTS.len()],
+}
+
+/// The number that an answer begins with.
+fn number(answer: &[u8]) -> usize {
+    let digits = answer.iter().take_while(|byte| byte.is_ascii_digit());
+    digits.fold(0, |number, digit| 10 * number + (digit - b'0') as usize)
+}
+
+fn unreadable_sort(line: &[u8]) -> Sort {
+    let fields = line.split(|&byte| byte == b'\t').count();
+    match line {
+        _ if !line.ends_with(b"\n") => WithoutLf,
+        _ if line.len() > 128 => TooLong,
+        b"\n" => Empty,
+        _ if line.ends_with(b"\r\n") => WithCr,
+        _ if line.contains(&0) => WithNul,
+        _ if line.starts_with(b"plan\t") => SecondPlan,
+        _ if line.starts_with(b"ask\t") && fields == 4 => FourFields,
+        _ => Other,
+    }
+}
+
+impl Tally {
+    pub fn new() -> Tally {
+        Tally {
+            cases: 0,
+            numbers: Vec::new(),
+            sorts: [0; SORTS.len()],
+        }
+    }
+
+    pub fn begin(&mut self, kind: &Kind) {
+        self.numbers.push((kind.name, kind.reach, [0; 11]));
+    }
+
+    /// Counts a case that was compared.
+    pub fn count(&mut self, input: &[u8], output: &[u8]) {
+        self.cases += 1;
+        let answers: Vec<usize> = lines(output).skip(1).map(number).collect();
+        let (_, _, counts) = self.numbers.last_mut().expect("a kind");
+        answers.iter().for_each(|&number| counts[number] += 1);
+        if !begins_a_run(input) {
+            return self.count_ended(lines(input).count() as u64, &answers);
+        }
+        self.add(GoodFirst, 1);
+        for (line, number) in lines(input).skip(1).zip(answers) {
+            let read = number != UNREADABLE;
+            self.add(if read { Ask } else { unreadable_sort(line) }, 1);
+        }
+    }
+
+    /// A run of so many lines that ended at its first, or is empty.
+    fn count_ended(&mut self, lines: u64, answers: &[usize]) {
+        match answers {
+            [] => return,
+            [UNREADABLE, ..] => self.add(UnreadableFirst, 1),
+            _ => self.add(RefusedFirst, 1),
+        }
+        self.add(AfterTheEnd, lines - 1);
+    }
+
+    fn add(&mut self, sort: Sort, lines: u64) {
+        self.sorts[sort as usize] += lines;
+    }
+
+    pub fn table(&self) -> String {
+        let heads: String = (0..11).map(|number| format!("{number:>8}")).collect();
+        let mut text = format!("{:10}{heads}\n", "");
+        for (name, _, counts) in &self.numbers {
+            let cells: String = counts.iter().map(|count| format!("{count:>8}")).collect();
+            text += &format!("{name:10}{cells}\n");
+        }
+        text += "how many lines of each sort were read:\n";
+        for (sort, words) in SORTS {
+            text += &format!("{:>10}  {words}\n", self.sorts[sort as usize]);
+        }
+        text
+    }
+
+    /// What should have occurred and did not, in words.
+    pub fn missing(&self) -> Vec<String> {
+        let mut missing = Vec::new();
+        for (name, reach, counts) in &self.numbers {
+            let never = reach.iter().filter(|&&number| counts[number] == 0);
+            missing.extend(never.map(|number| format!("{name} {number}")));
+        }
+        let never = SORTS
+            .iter()
+            .filter(|(sort, _)| self.sorts[*sort as usize] == 0);
+        missing.extend(never.map(|(_, words)| words.to_string()));
+        missing
+    }
+}
