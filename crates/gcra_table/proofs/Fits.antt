@@ -2,7 +2,7 @@
 -- Assumes nothing.
 use mathlib.Core.Path.{_≡_, sym, subst}
 use Rattle.rate.specs.declared.units.Ticks.{Ticks}
-use Rattle.rate.specs.Gcra.{gcra}
+use Rattle.gcra.specs.Gcra.{gcra}
 use Rattle.table.specs.Request.{Request}
 use Rattle.table.specs.Rule.{ruleOf}
 use Rattle.table.specs.Calls.{Ruling, judgeCall}

@@ -1,7 +1,7 @@
 -- The laws of the calls hold of the GCRA engine (table, proofs/Laws).
 -- Assumes nothing.
-use Rattle.rate.specs.Gcra.{gcra}
-use Rattle.rate.proofs.GcraLaws.{gcra-lawful}
+use Rattle.gcra.specs.Gcra.{gcra}
+use Rattle.gcra.proofs.Laws.{gcra-lawful}
 use Rattle.table.proofs.Laws.{CallLaws, call-laws}
 use Rattle.gcra_table.specs.Table.{columns}
 use Rattle.gcra_table.proofs.Columns.{gcra-stored}

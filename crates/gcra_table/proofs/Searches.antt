@@ -4,18 +4,14 @@ use mathlib.Core.Path.{_≡_}
 use mathlib.Core.List.{List}
 use Prim.Native.Nat.{ℕ}
 use lib.ListN.{length}
-use Rattle.rate.specs.Gcra.{gcra}
+use Rattle.gcra.specs.Gcra.{gcra}
 use Rattle.table.specs.declared.search.Place.{Place}
 use Rattle.table.specs.Request.{Query}
 use Rattle.table.specs.Rule.{ruleOf}
 use Rattle.table.specs.Slots.{seek, carries, own, vacant, lowestFree}
 use Rattle.table.proofs.Judging.{own-found, free-found}
-use Rattle.table.proofs.Slots.{common-same}
 use Rattle.gcra_table.specs.Table.{tableOf, columns}
-
-all-slots : (ids tats : List ℕ) → length ids ≡ length tats → columns .slots (tableOf ids tats) ≡ length ids
-unfolding columns
-all-slots ids tats equal = common-same (length ids) (length tats) equal
+use Rattle.gcra_table.proofs.Lengths.{all-slots}
 
 module _ (ids tats : List ℕ) (equal : length ids ≡ length tats) (q : Query) {p p′ : Place} where
   pub own-all : p ≡ seek (carries ids (q .subscriber)) (length ids) → p ≡ p′ → own columns q (tableOf ids tats) ≡ p′

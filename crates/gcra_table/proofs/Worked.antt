@@ -7,7 +7,7 @@ use Prim.Native.Nat.{ℕ}
 use Rattle.rate.specs.Answer.{answered}
 use Rattle.rate.specs.Decision.{remaining, resetAt, retryAfter, bare, reported, admitted, throttled}
 use Rattle.rate.specs.Engine.{judge}
-use Rattle.rate.specs.Gcra.{gcra, fresh, sound, free, later, backlog, admits, spend}
+use Rattle.gcra.specs.Gcra.{gcra, fresh, sound, free, later, backlog, admits, spend}
 use Rattle.rate.specs.Grains.{ticksIn, price, capacity, divUp, oneTo, planOk, onClock}
 use Rattle.table.specs.Checks.{slotsOk, queryCheck, costCheck, requestCheck, guard}
 use Rattle.table.specs.Rule.{ruleOf}
@@ -17,5 +17,5 @@ use Rattle.table.specs.Worked.{plan, ask, asks, line, answers, burstAnswer, nob
 use Rattle.gcra_table.specs.Table.{tableOf, columns}
 
 pub worked : (id tat : ℕ) → examples (ruleOf gcra) columns (tableOf (id ∷ []) (tat ∷ [])) ≡ expected
-unfolding answered remaining resetAt retryAfter bare reported admitted throttled judge gcra fresh sound free later backlog admits spend ticksIn price capacity divUp oneTo planOk onClock slotsOk queryCheck costCheck requestCheck guard ruleOf common seekFrom seek carries own vacant lowestFree ruled newcomer judgeIn commit slotFrom slotFor judgeCall acquire clear plan ask asks line answers burstAnswer nobodyAnswer played examples expected columns
+unfolding answered remaining resetAt retryAfter bare reported admitted throttled judge gcra fresh sound free later backlog admits spend ticksIn price capacity divUp oneTo planOk onClock slotsOk queryCheck costCheck requestCheck guard common seekFrom seek carries own vacant lowestFree ruled newcomer judgeIn commit slotFrom slotFor judgeCall acquire clear plan ask asks line answers burstAnswer nobodyAnswer played examples expected columns
 worked id tat = refl

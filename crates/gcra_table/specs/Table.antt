@@ -5,7 +5,7 @@ use mathlib.Core.List.{List}
 use lib.ListN.{length, getD, set, replicate}
 use Rattle.rate.specs.declared.units.Ticks.{Ticks}
 use Rattle.rate.specs.Answer.{verdictOf}
-use Rattle.rate.specs.Gcra.{gcra}
+use Rattle.gcra.specs.Gcra.{gcra}
 use Rattle.table.specs.Request.{Query, Request}
 use Rattle.table.specs.Rule.{ruleOf}
 use Rattle.table.specs.Slots.{Columns, common}

@@ -2,7 +2,7 @@
 ghost use mathlib.Core.Path.{_≡_};
 ghost use Rattle.rate.specs.Answer.{verdictOf, answered};
 ghost use Rattle.rate.specs.Engine.{judge};
-ghost use Rattle.rate.specs.Gcra.{gcra};
+ghost use Rattle.gcra.specs.Gcra.{gcra};
 ghost use Rattle.rate.specs.Grains.{InForce};
 ghost use Rattle.table.specs.Request.{requestOf};
 ghost use Rattle.table.specs.Rule.{ruleOf};
@@ -12,7 +12,6 @@ use crate::slot;
 use crate::slot::Slot;
 use rate::answer::Outcome;
 use rate::answer::Reason;
-use rate::gcra;
 use rate::plan::Plan;
 use rate::units::Millis;
 use rate::units::Ticks;

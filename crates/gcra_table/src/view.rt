@@ -2,13 +2,12 @@
 ghost use mathlib.Core.Path.{_≡_};
 ghost use lib.ListN.{length};
 ghost use Rattle.rate.specs.Answer.{verdictOf};
-ghost use Rattle.rate.specs.Gcra.{gcra};
+ghost use Rattle.gcra.specs.Gcra.{gcra};
 ghost use Rattle.table.specs.Request.{queryOf};
 ghost use Rattle.table.specs.Rule.{ruleOf};
 ghost use Rattle.table.specs.Calls.{held, peekVerdict};
 ghost use Rattle.gcra_table.specs.Table.{tableOf, columns};
 use rate::answer::Outcome;
-use rate::gcra;
 use rate::plan::Plan;
 use rate::units::Millis;
 use rate::units::Ticks;

@@ -6,9 +6,9 @@ use mathlib.Core.List.{List, []}
 use Prim.Native.Nat.{ℕ}
 use Rattle.rate.specs.declared.plan.Plan.{Plan}
 use Rattle.rate.specs.Engine.{Engine}
-use Rattle.rate.proofs.GcraLaws.{gcra-lawful}
+use Rattle.gcra.proofs.Laws.{gcra-lawful}
 use Rattle.rate.proofs.Lawful.{Lawful}
-use Rattle.rate.proofs.TokenBucketLaws.{token-bucket-lawful}
+use Rattle.token_bucket.proofs.Laws.{token-bucket-lawful}
 use Rattle.table.specs.Checks.{slotsOk}
 use Rattle.table.specs.Rule.{ruleOf}
 use Rattle.table.specs.Slots.{Columns}

@@ -4,8 +4,8 @@ use Prim.Native.Nat.{ℕ}
 use mathlib.Core.Path.{_≡_}
 use mathlib.Core.List.{List, []}
 use Rattle.rate.specs.declared.plan.Plan.{Plan}
-use Rattle.rate.specs.Gcra.{gcra}
-use Rattle.rate.specs.TokenBucket.{tokenBucket}
+use Rattle.gcra.specs.Gcra.{gcra}
+use Rattle.token_bucket.specs.TokenBucket.{tokenBucket}
 use Rattle.table.specs.Rule.{ruleOf}
 use Rattle.gcra_table.specs.Table as gcra-table
 use Rattle.token_bucket_table.specs.Table as token-bucket-table

@@ -1,13 +1,13 @@
 -- The output has room for every answer to a piece, and the buffers stay as long as they are.
 -- Assumes nothing.
-use mathlib.Core.Path.{_≡_, refl, sym, subst}
+use mathlib.Core.Path.{_≡_, refl, subst}
 use mathlib.Core.List.{List}
 use Prim.Native.Nat.{ℕ, _+_, _≤_}
 use native.Mathlib.Omega.{arith}
 use lib.ListN.{length, take, length-take}
 use Rattle.transcript.specs.declared.stream.Session.{Session}
 use Rattle.transcript.specs.Stream.{State, said, ending, mostLine}
-use Rattle.transcript.specs.Running.{Lent, Seated, Ready, started}
+use Rattle.transcript.specs.Running.{Lent, Ready}
 use Rattle.transcript.proofs.Lengths.{said-most, ending-most, endings-most}
 use Rattle.railcadence.specs.declared.serve.Served.{Served}
 use Rattle.railcadence.specs.declared.serve.Served.the-variants.{More, End}
@@ -32,10 +32,6 @@ goes-on line o e = subst (λ (x : Served). Onwards x line) e o
 pub ends : {r : Served} {s : Session} (line : List ℕ) → Onwards r line → r ≡ End s → Ready s line
 unfolding Onwards
 ends line o e = subst (λ (x : Served). Onwards x line) e o
-
-pub starts : {s : Session} (line : List ℕ) → s ≡ started → 127 ≤ length line → Ready s line
-unfolding Seated
-starts line e h = subst (λ (x : Session). Ready x line) {x = started} (sym e) (record { seated = tt; held-within = omega arith; line-enough = h })
 
 -- buffers of the same lengths
 pub record Same (piece line ids tats out piece₀ line₀ ids₀ tats₀ out₀ : List ℕ) : Type 0 where

@@ -1,6 +1,6 @@
 -- The numbers of the answers: of each cause of a refusal, none of which is 0, of an answer, and of a clear.
 -- Assumes nothing.
-use mathlib.Core.Path.{_≡_, refl}
+use mathlib.Core.Path.{_≡_, refl, ap, _∙_}
 use mathlib.Core.Bool.{false}
 use lib.Dec.{eqb}
 use Prim.Native.Nat.{ℕ, _+_}
@@ -63,6 +63,9 @@ pub refused : (reason : Reason) → verdictOf (Refused reason) ≡ bare (reasonN
 unfolding verdictOf
 refused reason = refl
 
+pub corrupt : verdictOf (Refused CorruptRecord) ≡ bare 7
+corrupt = refused CorruptRecord ∙ ap bare corrupt-record
+
 -- the number of each verdict
 pub bare-number : (n : ℕ) → bare n .number ≡ n
 unfolding bare
@@ -74,7 +77,7 @@ reported-number p at backlog = refl
 
 pub admitted-number : (p : Plan) (at backlog cost : ℕ) → admitted p at backlog cost .number ≡ 0
 unfolding admitted
-admitted-number p at backlog cost = reported-number p at (backlog + price p cost)
+admitted-number p at backlog cost = reported-number p at _
 
 pub throttled-number : (p : Plan) (at backlog cost : ℕ) → throttled p at backlog cost .number ≡ 8
 unfolding throttled

@@ -5,16 +5,20 @@ use mathlib.Core.Path.{_≡_, refl, ap, sym, _∙_}
 use mathlib.Core.Bool.{Bool, true, false, not}
 use Prim.Native.Nat.{ℕ, _≤_}
 use borrow.Author.Tests.{leb-true, leb-false, not-true, not-false}
+use Rattle.rate.specs.declared.answer.Outcome.the-variants.{Refused}
+use Rattle.rate.specs.declared.answer.Reason.the-variants.{CorruptRecord}
 use Rattle.rate.specs.declared.plan.Plan.{Plan}
+use Rattle.rate.specs.Answer.{verdictOf}
+use Rattle.rate.proofs.Answers.{corrupt}
 use Rattle.rate.specs.Grains.{capacity, InForce}
-use Rattle.rate.specs.Decision.{Verdict, bare, admitted, throttled, reported, admissible, Owing, Admitting, Throttling}
+use Rattle.rate.specs.Decision.{Verdict, admitted, throttled, reported, admissible, Owing, Admitting, Throttling}
 use Rattle.rate.specs.Engine.{Engine, judge, report}
 use Rattle.rate.proofs.Cases.{judge-corrupt, judge-admitted, judge-throttled, report-corrupt, report-sound}
 use Rattle.rate.proofs.Lawful.{Lawful}
 
 module _ {R : Type 0} {E : Engine R} (L : Lawful E) {p : Plan} {at : ℕ} (r : R) where
-  pub reports-corrupt : {ok : Bool} → ok ≡ E .sound p at r → not ok ≡ true → bare 7 ≡ report E p at r
-  reports-corrupt says failed = sym (report-corrupt E p at r (sym says ∙ not-true _ failed))
+  pub reports-corrupt : {ok : Bool} → ok ≡ E .sound p at r → not ok ≡ true → verdictOf (Refused CorruptRecord) ≡ report E p at r
+  reports-corrupt says failed = corrupt ∙ sym (report-corrupt E p at r (sym says ∙ not-true _ failed))
 
   pub reports-sound :
       {ok : Bool} {owed : ℕ} {v : Verdict} → ok ≡ E .sound p at r → not ok ≡ false → owed ≡ E .backlog p at r →
@@ -33,8 +37,8 @@ module _ {R : Type 0} {E : Engine R} (L : Lawful E) {p : Plan} {at : ℕ} (r : R
   module _ (cost : ℕ) where
     pub judges-corrupt :
         {ok : Bool} → ok ≡ E .sound p at r → not ok ≡ true →
-        (bare 7 ≡ judge E p at r cost .verdict) × (r ≡ judge E p at r cost .after)
-    judges-corrupt says failed = rw (judge-corrupt E p at r cost (sym says ∙ not-true _ failed)) (refl, refl)
+        (verdictOf (Refused CorruptRecord) ≡ judge E p at r cost .verdict) × (r ≡ judge E p at r cost .after)
+    judges-corrupt says failed = rw (judge-corrupt E p at r cost (sym says ∙ not-true _ failed)) (corrupt, refl)
 
     test :
         {owed : ℕ} {fits t : Bool} → owed ≡ E .backlog p at r → fits ≡ admissible p owed cost → fits ≡ t →

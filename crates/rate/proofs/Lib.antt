@@ -5,8 +5,6 @@ pub mod Rounding
 pub mod Limits
 pub mod Products
 pub mod Lawful
-pub mod GcraLaws
-pub mod TokenBucketLaws
 pub mod Cases
 pub mod Judging
 pub mod Fresh

@@ -1,6 +1,6 @@
 -- Two lawful engines whose records owe the same go on answering and owing the same, whatever asks come: both drain alike,
--- and what an ask is answered and what it adds depend on the backlog alone. So GCRA and the token bucket agree over the
--- life of one record.
+-- and what an ask is answered and what it adds depend on the backlog alone. So any two lawful engines agree over the life of
+-- one record.
 -- Assumes nothing.
 use mathlib.Core.Path.{_≡_, refl, ap, ap₂, sym, _∙_}
 use mathlib.Core.Bool.{Bool, true, false}
@@ -10,12 +10,8 @@ use Rattle.rate.specs.declared.plan.Plan.{Plan}
 use Rattle.rate.specs.Grains.{ticksIn, price}
 use Rattle.rate.specs.Decision.{admissible, admitted, throttled}
 use Rattle.rate.specs.Engine.{Engine, Judged, judge}
-use Rattle.rate.specs.Gcra.{gcra}
-use Rattle.rate.specs.TokenBucket.{tokenBucket}
 use Rattle.rate.specs.Life.{Ask, Rising, newest, lived, verdicts, Agreement}
 use Rattle.rate.proofs.Lawful.{Lawful}
-use Rattle.rate.proofs.GcraLaws.{gcra-lawful}
-use Rattle.rate.proofs.TokenBucketLaws.{token-bucket-lawful}
 use Rattle.rate.proofs.Cases.{judge-admitted, judge-throttled}
 
 pub record Alike {R S : Type 0} (E : Engine R) (F : Engine S) (p : Plan) (at : ℕ) (r : R) (s : S) : Type 0 where
@@ -79,20 +75,19 @@ module _ {R S : Type 0} {E : Engine R} {F : Engine S} (L : Lawful E) (M : Lawful
       let then = life-agrees rest (q .moment) (judge E p (q .moment) r (q .cost) .after) (judge F p (q .moment) s (q .cost) .after) (up .1) (now .after) in
       (ap₂ _∷_ (now .verdict) (then .0), then .1)
 
--- over one record's life, with moments that never fall, GCRA and the token bucket agree
-pub engines-agree : (p : Plan) (from : ℕ) (asks : List Ask) → Rising from asks → Agreement p from asks
-engines-agree p from asks up =
-    let r = gcra .fresh p from in
-    let s = tokenBucket .fresh p from in
-    let fresh : Alike gcra tokenBucket p from r s =
-    record {
-      left-sound = gcra-lawful .fresh-sound p from;
-      right-sound = token-bucket-lawful .fresh-sound p from;
-      same = gcra-lawful .fresh-owes-nothing p from ∙ sym (token-bucket-lawful .fresh-owes-nothing p from);
-    } in
-    let whole = life-agrees gcra-lawful token-bucket-lawful p asks from r s up fresh in
-    record {
-      answers = whole .0;
-      backlogs =
-          λ k h. later gcra-lawful token-bucket-lawful p (newest from asks) k (lived gcra p r asks) (lived tokenBucket p s asks) h (whole .1) .same;
-    }
+  -- over one record's life, with moments that never fall, the two agree
+  pub lives-agree : (from : ℕ) (asks : List Ask) → Rising from asks → Agreement E F p from asks
+  lives-agree from asks up =
+      let r = E .fresh p from in
+      let s = F .fresh p from in
+      let fresh : Alike E F p from r s =
+      record {
+        left-sound = L .fresh-sound p from;
+        right-sound = M .fresh-sound p from;
+        same = L .fresh-owes-nothing p from ∙ sym (M .fresh-owes-nothing p from);
+      } in
+      let whole = life-agrees asks from r s up fresh in
+      record {
+        answers = whole .0;
+        backlogs = λ k h. later (newest from asks) k (lived E p r asks) (lived F p s asks) h (whole .1) .same;
+      }

@@ -2,14 +2,15 @@
 -- Assumes nothing.
 use mathlib.Core.Path.{_≡_, refl}
 use mathlib.Core.Bool.{true}
-use Prim.Native.Nat.{ℕ, _*_, _≤_}
+use Prim.Native.Nat.{ℕ, _+_, _*_, _≤_}
 use native.Mathlib.Nat.{mul-le-mul, mul-le-mul-left, div-le-of-le-mul}
 use native.Mathlib.Omega.{arith}
+use lib.Dec.{leb}
 use borrow.Author.Tests.{leb-true}
 use Rattle.rate.specs.declared.plan.Plan.{Plan}
 use Rattle.rate.specs.Grains.{ticksIn, price, capacity, oneTo, planOk, onClock, mostLimit, mostPeriod, mostBurst, lastMoment, WithinLimits, InForce}
-use Rattle.rate.specs.Decision.{remaining}
-use Rattle.rate.proofs.Tests.{both}
+use Rattle.rate.specs.Decision.{admissible, remaining, reported, admitted}
+use Rattle.rate.proofs.Tests.{both, leb-same}
 
 one-to : (most x : ℕ) → oneTo most x ≡ true → (1 ≤ x) × (x ≤ most)
 unfolding oneTo
@@ -55,7 +56,22 @@ pub price-within : (p : Plan) (cost : ℕ) → cost ≤ p .burst → price p cos
 unfolding price
 price-within p cost h = rw capacity-is-price (mul-le-mul-left (p .period) h)
 
+-- a test is the rule's where each says that the price fits
+pub fits-test :
+    (p : Plan) (backlog cost a b : ℕ) → (a ≤ b → backlog + price p cost ≤ capacity p) →
+    (backlog + price p cost ≤ capacity p → a ≤ b) → leb a b ≡ admissible p backlog cost
+unfolding admissible
+fits-test p backlog cost a b = leb-same a b (backlog + price p cost) (capacity p)
+
 -- no more units are left than the burst
 pub remaining-most : (p : Plan) (backlog : ℕ) → remaining p backlog ≤ p .burst
 unfolding remaining capacity
 remaining-most p backlog = div-le-of-le-mul (p .period) (omega arith)
+
+pub reported-left-most : (p : Plan) (at backlog : ℕ) → reported p at backlog .left ≤ p .burst
+unfolding reported
+reported-left-most p at backlog = remaining-most p backlog
+
+pub admitted-left-most : (p : Plan) (at backlog cost : ℕ) → admitted p at backlog cost .left ≤ p .burst
+unfolding admitted
+admitted-left-most p at backlog cost = reported-left-most p at (backlog + price p cost)

@@ -5,8 +5,6 @@ use mathlib.Core.List.{List, [], _∷_}
 use Rattle.rate.specs.declared.plan.Plan.{Plan}
 use Rattle.rate.specs.Decision.{Verdict}
 use Rattle.rate.specs.Engine.{Engine, judge}
-use Rattle.rate.specs.Gcra.{gcra}
-use Rattle.rate.specs.TokenBucket.{tokenBucket}
 
 pub record Ask : Type 0 where
   pub moment : ℕ
@@ -32,11 +30,10 @@ unfoldable pub verdicts : {R : Type 0} → Engine R → Plan → R → List Ask 
 verdicts E p r [] = []
 verdicts E p r (a ∷ rest) = judge E p (a .moment) r (a .cost) .verdict ∷ verdicts E p (judge E p (a .moment) r (a .cost) .after) rest
 
--- GCRA and the token bucket agree over the life of one record that starts fresh: the same answers, and at any moment from
--- the newest on the same backlog
-pub record Agreement (p : Plan) (from : ℕ) (asks : List Ask) : Type 0 where
-  pub answers : verdicts gcra p (gcra .fresh p from) asks ≡ verdicts tokenBucket p (tokenBucket .fresh p from) asks
+-- two engines agree over the life of one record that starts fresh: the same answers, and at any moment from the newest on
+-- the same backlog
+pub record Agreement {R S : Type 0} (E : Engine R) (F : Engine S) (p : Plan) (from : ℕ) (asks : List Ask) : Type 0 where
+  pub answers : verdicts E p (E .fresh p from) asks ≡ verdicts F p (F .fresh p from) asks
   pub backlogs :
       (k : ℕ) → newest from asks ≤ k →
-      gcra .backlog p k (lived gcra p (gcra .fresh p from) asks)
-      ≡ tokenBucket .backlog p k (lived tokenBucket p (tokenBucket .fresh p from) asks)
+      E .backlog p k (lived E p (E .fresh p from) asks) ≡ F .backlog p k (lived F p (F .fresh p from) asks)

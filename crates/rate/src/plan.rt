@@ -1,6 +1,6 @@
 // A plan (document 01, 'Grains'): `limit` units per `period` milliseconds, and a burst of `burst` units on top.
 ghost use mathlib.Core.Path.{_≡_};
-ghost use Prim.Native.Nat.{_^_, _-_, _/_, min};
+ghost use Prim.Native.Nat.{_^_, _-_, _*_, _/_, min};
 ghost use Rattle.rate.specs.Grains.{ticksIn, price, capacity, divUp, oneTo, planOk, WithinLimits};
 use crate::round;
 use crate::units::Millis;
@@ -12,6 +12,11 @@ pub const MOST_LIMIT: u32 = 1_000_000;
 pub const MOST_PERIOD: u32 = 2_678_400_000; // 31 days
 
 pub const MOST_BURST: u32 = 1_000_000;
+
+// A time and a limit below these, as all within document 01's limits are, have a product below 2^64.
+const SHORT_SPAN: u64 = 17_592_186_044_416; // 2^44
+
+const SMALL_LIMIT: u32 = 1_048_576; // 2^20
 
 const WORD: u64 = 4_294_967_296; // 2^32
 
@@ -31,6 +36,23 @@ fn is_one_to(most: u32, x: u32) -> bool
         return false;
     }
     x <= most
+}
+
+// A product, or the largest u64 if it is 2^64 or more; by way of the upper and the lower 32 bits of one factor.
+fn product(span: u64, limit: u32) -> u64
+    ensures { λ r. ⌜ r ≡ min (span * limit) (2 ^ 64 - 1) ⌝ }
+{
+    let factor = limit as u64;
+    let high = span / WORD * factor;
+    let low = span % WORD * factor;
+    if WORD <= high {
+        return LARGEST;
+    }
+    let top = high * WORD;
+    if LARGEST - top < low {
+        return LARGEST;
+    }
+    top + low
 }
 
 impl Plan {
@@ -66,17 +88,13 @@ impl Plan {
     pub fn ticks_in(self, span: Millis) -> Ticks
         ensures { λ r. ⌜ r .0 ≡ min (ticksIn self (span .0)) (2 ^ 64 - 1) ⌝ }
     {
-        let limit = self.limit as u64;
-        let high = span.0 / WORD * limit;
-        let low = span.0 % WORD * limit;
-        if WORD <= high {
-            return Ticks(LARGEST);
+        if SMALL_LIMIT <= self.limit {
+            return Ticks(product(span.0, self.limit));
         }
-        let top = high * WORD;
-        if LARGEST - top < low {
-            return Ticks(LARGEST);
+        if SHORT_SPAN <= span.0 {
+            return Ticks(product(span.0, self.limit));
         }
-        Ticks(top + low)
+        Ticks(span.0 * self.limit as u64)
     }
 
     // The whole milliseconds in a count of ticks, rounded down.

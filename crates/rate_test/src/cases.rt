@@ -3,12 +3,10 @@ use crate::line;
 use crate::reckon;
 use rate::answer::Cleared;
 use rate::answer::Reason;
-use rate::gcra;
 use rate::plan::Plan;
-use rate::token_bucket;
-use rate::token_bucket::Bucket;
 use rate::units::Millis;
 use rate::units::Ticks;
+use token_bucket::Bucket;
 
 fn plan_of(limit: u32, period: u32, burst: u32) -> Plan {
     Plan {
@@ -191,6 +189,19 @@ pub fn gcra_extremes() {
         18_446_744_073_709_551_615,
         1,
     );
+}
+
+// Times and limits about 2^44 and 2^20, from which on a product is reckoned in two parts.
+pub fn products() {
+    let below = plan_of(1_048_575, 1, 1);
+    let at = plan_of(1_048_576, 1, 1);
+    reckon::gcra(below, 17_592_186_044_415, 18_446_726_481_522_458_625, 1);
+    reckon::gcra(below, 17_592_186_044_415, 18_446_726_481_522_458_626, 1);
+    reckon::gcra(below, 17_592_186_044_416, 18_446_726_481_523_507_200, 1);
+    reckon::gcra(below, 17_592_186_044_416, 18_446_726_481_523_507_201, 1);
+    reckon::gcra(at, 17_592_186_044_415, 18_446_744_073_708_503_040, 1);
+    reckon::gcra(at, 17_592_186_044_415, 18_446_744_073_708_503_041, 1);
+    reckon::gcra(at, 17_592_186_044_416, 18_446_744_073_709_551_615, 1);
 }
 
 pub fn bucket_extremes() {

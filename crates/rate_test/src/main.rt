@@ -25,6 +25,8 @@ fn main() {
     cases::bucket_costs();
     line::title(b"gcra: plan and moment at their limits and beyond");
     cases::gcra_extremes();
+    line::title(b"gcra: products of about 64 bits");
+    cases::products();
     line::title(b"token bucket: plan and moment at their limits and beyond");
     cases::bucket_extremes();
     line::title(b"an ask every millisecond from 0 to 3000");

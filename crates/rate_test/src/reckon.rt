@@ -7,13 +7,11 @@ use rate::answer::Answer;
 use rate::answer::Cleared;
 use rate::answer::Outcome;
 use rate::answer::Reason;
-use rate::gcra;
 use rate::plan::Plan;
 use rate::round;
-use rate::token_bucket;
-use rate::token_bucket::Bucket;
 use rate::units::Millis;
 use rate::units::Ticks;
+use token_bucket::Bucket;
 
 pub enum Check {
     Passed,

@@ -5,7 +5,7 @@ use mathlib.Core.Bool.{true, false}
 use Prim.Native.Nat.{ℕ}
 use lib.Dec.{eqb}
 use Rattle.rate.specs.Answer.{answered}
-use Rattle.rate.specs.Decision.{bare}
+use Rattle.rate.specs.Decision.{Verdict, bare}
 use Rattle.rate.specs.Engine.{Judged}
 use Rattle.table.specs.declared.search.Place.{Place}
 use Rattle.table.specs.declared.search.Place.the-variants.{Nowhere, At}
@@ -88,6 +88,18 @@ module _ {C R : Type 0} (U : Rule R) (K : Columns C R) (c : C) where
         judgeCall U K r c ≡ ruled i (U .judge (r .query .plan) (r .query .moment) h (r .cost))
     unfolding judgeIn
     judge-at e f = judge-passed e f
+
+-- what a ruling answers and leaves
+module _ {C R : Type 0} (K : Columns C R) (subscriber : ℕ) (c : C) where
+  pub commit-keep : (v : Verdict) → commit K subscriber c (keep v) ≡ record { answer = answered subscriber v; after = c }
+  unfolding commit
+  commit-keep v = refl
+
+  pub commit-write :
+      (v : Verdict) (i : ℕ) (held : R) →
+      commit K subscriber c (write v i held) ≡ record { answer = answered subscriber v; after = K .put c i subscriber held }
+  unfolding commit
+  commit-write v i held = refl
 
 -- an ask is judged and committed; a look answers its verdict and leaves the columns
 module _ {C R : Type 0} (U : Rule R) (K : Columns C R) (c : C) where

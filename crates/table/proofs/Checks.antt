@@ -2,16 +2,16 @@
 -- Assumes nothing.
 use mathlib.Core.Path.{_≡_, refl, sym, _∙_}
 use mathlib.Core.Logic.{_⊎_, inl, inr}
-use mathlib.Core.Bool.{Bool, true, false, false≢true}
+use mathlib.Core.Bool.{Bool, true, false, false≢true, _&&_}
 use Prim.Native.Nat.{ℕ, zero, suc, _≤_}
 use native.Mathlib.Omega.{arith}
-use lib.Dec.{eqb, ltb}
-use borrow.Author.Tests.{leb-true, eq-eqb, ne-eqb}
+use lib.Dec.{eqb, leb, ltb}
+use borrow.Author.Tests.{le-leb, leb-true, eq-eqb, ne-eqb}
 use Rattle.rate.specs.Grains.{planOk, onClock, InForce}
 use Rattle.rate.proofs.Limits.{in-force}
 use Rattle.rate.proofs.Tests.{both}
 use Rattle.table.specs.Request.{Query, Request}
-use Rattle.table.specs.Checks.{slotsOk, queryCheck, costCheck, requestCheck, guard}
+use Rattle.table.specs.Checks.{mostSlots, slotsOk, queryCheck, costCheck, requestCheck, guard}
 
 -- a number that is not 0 is given by itself
 pub guard-not-0 : {A : Type 0} (refuse : ℕ → A) (n : ℕ) (rest : A) → eqb n 0 ≡ false → guard refuse n rest ≡ refuse n
@@ -108,6 +108,15 @@ module _ (q : Query) (slots : ℕ) where
 pub slots-least : (slots : ℕ) → slotsOk slots ≡ true → 1 ≤ slots
 unfolding slotsOk
 slots-least slots e = leb-true _ _ (both _ _ e .0)
+
+-- up to the most, a number of slots is within its limits exactly if it is not 0
+pub slots-some : (slots : ℕ) → slots ≤ mostSlots → slotsOk slots ≡ leb 1 slots
+unfolding slotsOk
+slots-some slots h = rw (le-leb slots mostSlots h) (and-true (leb 1 slots))
+  where
+    and-true : (t : Bool) → (t && true) ≡ t
+    and-true true = refl
+    and-true false = refl
 
 module _ (r : Request) (slots : ℕ) where
   -- checks 1 to 4 answer an ask as they answer a look

@@ -8,7 +8,7 @@ use lib.Dec.{eqb}
 use Rattle.rate.specs.declared.answer.Outcome.the-variants.{Refused}
 use Rattle.rate.specs.declared.answer.Reason.{Reason}
 use Rattle.rate.specs.declared.answer.Reason.the-variants.{TableFull}
-use Rattle.rate.specs.Answer.{reasonNumber, verdictOf}
+use Rattle.rate.specs.Answer.{answered, reasonNumber, verdictOf}
 use Rattle.rate.specs.Decision.{Verdict, bare}
 use Rattle.rate.specs.Engine.{Judged}
 use Rattle.rate.proofs.Answers.{refused, refuses, table-full}
@@ -19,8 +19,8 @@ use Rattle.table.specs.Request.{Query, Request}
 use Rattle.table.specs.Checks.{checkNumber, queryCheck, requestCheck}
 use Rattle.table.specs.Rule.{Rule}
 use Rattle.table.specs.Slots.{Columns, common, seek, carries, own, vacant, lowestFree}
-use Rattle.table.specs.Calls.{none, at, Ruling, keep, write, ruled, slotFor, judgeCall, held, peekVerdict}
-use Rattle.table.proofs.Cases.{ruled-writes, ruled-keeps, judge-refused, judge-full, judge-at, peek-refused, peek-reported}
+use Rattle.table.specs.Calls.{Step, none, at, Ruling, keep, write, ruled, slotFor, judgeCall, commit, held, peekVerdict}
+use Rattle.table.proofs.Cases.{ruled-writes, ruled-keeps, judge-refused, judge-full, judge-at, commit-keep, commit-write, peek-refused, peek-reported}
 use Rattle.table.proofs.Checks.{Asked, asked, payable, slots-least}
 use Rattle.table.proofs.Slots.{common-equal}
 
@@ -86,6 +86,23 @@ module _ {C R : Type 0} (U : Rule R) (K : Columns C R) (c : C) where
       h ≡ held U K q c → v ≡ U .report (q .plan) (q .moment) h → v ≡ peekVerdict U K q c
   peeks-reported q says e f v =
       v ∙ ap (λ (h : R). U .report (q .plan) (q .moment) h) f ∙ sym (peek-reported U K c q (told-passed says e))
+
+-- a ruling carried out
+module _ {C R : Type 0} (K : Columns C R) (subscriber : ℕ) (c : C) {x : Ruling R} where
+  pub commits-keep :
+      {v : Verdict} → x ≡ keep v →
+      (answered subscriber v ≡ commit K subscriber c x .answer) × (c ≡ commit K subscriber c x .after)
+  commits-keep {v} e =
+      let done = sym (ap (λ (x : Ruling R). commit K subscriber c x) e ∙ commit-keep K subscriber c v) in
+      (ap (λ (s : Step C). s .answer) done, ap (λ (s : Step C). s .after) done)
+
+  pub commits-write :
+      {v : Verdict} {i : ℕ} {h : R} → x ≡ write v i h →
+      (answered subscriber v ≡ commit K subscriber c x .answer)
+      × (K .put c i subscriber h ≡ commit K subscriber c x .after)
+  commits-write {v} {i} {h} e =
+      let done = sym (ap (λ (x : Ruling R). commit K subscriber c x) e ∙ commit-write K subscriber c v i h) in
+      (ap (λ (s : Step C). s .answer) done, ap (λ (s : Step C). s .after) done)
 
 -- a search over all slots
 module _ {C R : Type 0} (K : Columns C R) (c : C) (q : Query) {n : ℕ} (count : K .slots c ≡ n) {p p′ : Place} where

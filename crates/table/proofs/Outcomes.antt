@@ -19,6 +19,7 @@ use Rattle.table.specs.Rule.{Rule, ruleOf}
 use Rattle.table.specs.Slots.{Columns, own, lowestFree}
 use Rattle.table.specs.Calls.{Step, Ruling, keep, write, ruled, judgeCall, commit, acquire}
 use Rattle.table.proofs.Cases.{ruled-writes, ruled-keeps, slot-own, slot-new, slot-none, judge-refused, judge-full, judge-at}
+use Rattle.table.proofs.Cases.{commit-keep, commit-write, acquire-commits}
 use Rattle.table.proofs.Checks.{Payable, pays}
 use Rattle.table.proofs.Placing.{Own, Unknown, Vacant, Full}
 use Rattle.table.proofs.Seek.{seek-at, seek-nowhere}
@@ -34,12 +35,14 @@ writes K r c v i held =
 
 module _ {C R : Type 0} (U : Rule R) (K : Columns C R) (r : Request) (c : C) where
   pub acquire-keeps : {v : Verdict} → judgeCall U K r c ≡ keep v → acquire U K r c ≡ stays r c v
-  unfolding acquire commit
-  acquire-keeps e = ap (λ (x : Ruling R). commit K (r .query .subscriber) c x) e
+  acquire-keeps {v} e =
+      acquire-commits U K c r ∙ ap (λ (x : Ruling R). commit K (r .query .subscriber) c x) e
+      ∙ commit-keep K (r .query .subscriber) c v
 
   pub acquire-writes : {v : Verdict} {i : ℕ} {held : R} → judgeCall U K r c ≡ write v i held → acquire U K r c ≡ writes K r c v i held
-  unfolding acquire commit
-  acquire-writes e = ap (λ (x : Ruling R). commit K (r .query .subscriber) c x) e
+  acquire-writes {v} {i} {held} e =
+      acquire-commits U K c r ∙ ap (λ (x : Ruling R). commit K (r .query .subscriber) c x) e
+      ∙ commit-write K (r .query .subscriber) c v i held
 
   -- numbers 1 to 6
   pub refused : eqb (requestCheck r (K .slots c)) 0 ≡ false → acquire U K r c ≡ stays r c (bare (requestCheck r (K .slots c)))
@@ -103,7 +106,6 @@ module _
     (o : Own K (r .query) c i) where
   -- number 7
   pub corrupt : soundAt E r (K .row c i) ≡ false → acquire (ruleOf E) K r c ≡ stays r c (bare 7)
-  unfolding ruleOf
   corrupt s =
       acquire-keeps (ruleOf E) K r c
       (judged-own (ruleOf E) K r c p o
@@ -114,7 +116,6 @@ module _
   pub waits :
       soundAt E r (K .row c i) ≡ true → admitsAt E r (K .row c i) ≡ false →
       acquire (ruleOf E) K r c ≡ stays r c (throttledAt E r (K .row c i))
-  unfolding ruleOf
   waits s a =
       acquire-keeps (ruleOf E) K r c
       (judged-own (ruleOf E) K r c p o
@@ -126,7 +127,6 @@ module _
   pub admits :
       soundAt E r (K .row c i) ≡ true → admitsAt E r (K .row c i) ≡ true →
       acquire (ruleOf E) K r c ≡ writes K r c (admittedAt E r (K .row c i)) i (spentAt E r (K .row c i))
-  unfolding ruleOf
   admits s a =
       acquire-writes (ruleOf E) K r c
       (judged-own (ruleOf E) K r c p o
@@ -139,7 +139,6 @@ module _ {C R : Type 0} {E : Engine R} (L : Lawful E) (K : Columns C R) (r : Req
   pub admits-new :
       (i : ℕ) → Unknown K (r .query) c → Vacant (ruleOf E) K (r .query) c i →
       acquire (ruleOf E) K r c ≡ writes K r c (admittedAt E r (freshAt E r)) i (spentAt E r (freshAt E r))
-  unfolding ruleOf
   admits-new i unknown free =
       acquire-writes (ruleOf E) K r c
       (judged-new (ruleOf E) K r c p unknown free

@@ -37,14 +37,14 @@ module _ {C R : Type 0} {E : Engine R} (L : Lawful E) (K : Columns C R) (q : Que
   pub peek-is-free-acquire :
       peekVerdict (ruleOf E) K q c
       ≡ guard bare (queryCheck q (K .slots c)) (judge E (q .plan) (q .moment) (held (ruleOf E) K q c) 0 .verdict)
-  unfolding peekVerdict ruleOf
+  unfolding peekVerdict
   peek-is-free-acquire =
       ap (λ (v : Verdict). guard bare (queryCheck q (K .slots c)) v) (look-is-free-ask L (q .plan) (q .moment) (held (ruleOf E) K q c))
 
   peeks :
       {h : R} → Asked q (K .slots c) → held (ruleOf E) K q c ≡ h →
       peek (ruleOf E) K q c .answer ≡ answered (q .subscriber) (report E (q .plan) (q .moment) h)
-  unfolding peek ruleOf
+  unfolding peek
   peeks a e =
       ap (λ (v : Verdict). answered (q .subscriber) v)
       (peek-reported (ruleOf E) K c q (asks q (K .slots c) a) ∙ ap (λ (h : R). report E (q .plan) (q .moment) h) e)
@@ -61,7 +61,7 @@ module _ {C R : Type 0} {E : Engine R} (L : Lawful E) (K : Columns C R) (q : Que
       Asked q (K .slots c) → Unknown K q c →
       peek (ruleOf E) K q c .answer
       ≡ answered (q .subscriber) (record { number = 0; left = q .plan .burst; reset = q .moment; wait = 0 })
-  unfolding own ruleOf
+  unfolding own
   peek-unknown a u =
       peeks a (held-fresh (ruleOf E) K c q (seek-nowhere _ _ u))
       ∙ ap (λ (v : Verdict). answered (q .subscriber) v) (fresh-report L (q .plan) (q .moment) (within-limits (q .plan) (a .plan) .period-least))

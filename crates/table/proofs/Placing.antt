@@ -35,7 +35,7 @@ pub vacant-owes-nothing :
     vacant (ruleOf E) K q c i
     ≡ (carries (K .ids c) 0 i
     || (E .sound (q .plan) (q .moment) (K .row c i) && eqb (E .backlog (q .plan) (q .moment) (K .row c i)) 0))
-unfolding vacant ruleOf
+unfolding vacant
 vacant-owes-nothing L K q c i = ap (λ (t : Bool). carries (K .ids c) 0 i || t) (L .free-iff (q .plan) (q .moment) (K .row c i))
 
 module _ {C R : Type 0} (U : Rule R) (K : Columns C R) (q : Query) (c : C) where

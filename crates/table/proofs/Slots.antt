@@ -42,5 +42,5 @@ carries-other ids subscriber i n = ne-eqb _ _ n
 pub vacant-test :
     {C R : Type 0} (E : Engine R) (K : Columns C R) (q : Query) (c : C) (i : ℕ) →
     vacant (ruleOf E) K q c i ≡ (eqb (getD (K .ids c) i 0) 0 || E .free (q .plan) (q .moment) (K .row c i))
-unfolding vacant carries ruleOf
+unfolding vacant carries
 vacant-test E K q c i = refl

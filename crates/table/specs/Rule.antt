@@ -17,5 +17,5 @@ pub record Rule (R : Type 0) : Type 0 where
   pub report : Plan → ℕ → R → Verdict
 
 -- the rule of an engine
-unfoldable pub ruleOf : {R : Type 0} → Engine R → Rule R
+abbrev pub ruleOf : {R : Type 0} → Engine R → Rule R
 ruleOf E = record { fresh = E .fresh; free = E .free; judge = judge E; report = report E }

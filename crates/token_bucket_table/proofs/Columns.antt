@@ -6,7 +6,7 @@ use Prim.Native.Nat.{ℕ, _≤_, _<_}
 use native.Mathlib.Omega.{arith}
 use lib.ListN.{length, replicate, length-set, length-replicate}
 use lib.Seq.{getD-set-same, getD-set-other}
-use Rattle.rate.specs.declared.token_bucket.Bucket.{Bucket}
+use Rattle.token_bucket.specs.declared.Bucket.{Bucket}
 use Rattle.table.specs.Request.{Query}
 use Rattle.table.specs.Slots.{common}
 use Rattle.table.proofs.Checks.{Asked, slots-least}

@@ -1,8 +1,8 @@
 -- What an acquire writes lies within the columns.
 -- Assumes nothing.
 use mathlib.Core.Path.{_≡_, sym, subst}
-use Rattle.rate.specs.declared.token_bucket.Bucket.{Bucket}
-use Rattle.rate.specs.TokenBucket.{tokenBucket}
+use Rattle.token_bucket.specs.declared.Bucket.{Bucket}
+use Rattle.token_bucket.specs.TokenBucket.{tokenBucket}
 use Rattle.table.specs.Request.{Request}
 use Rattle.table.specs.Rule.{ruleOf}
 use Rattle.table.specs.Calls.{Ruling, judgeCall}

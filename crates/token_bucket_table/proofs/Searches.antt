@@ -2,7 +2,7 @@
 -- Assumes nothing.
 use mathlib.Core.Path.{_≡_, _∙_}
 use lib.ListN.{length}
-use Rattle.rate.specs.TokenBucket.{tokenBucket}
+use Rattle.token_bucket.specs.TokenBucket.{tokenBucket}
 use Rattle.table.specs.declared.search.Place.{Place}
 use Rattle.table.specs.Request.{Query}
 use Rattle.table.specs.Rule.{ruleOf}

@@ -9,7 +9,7 @@ use Rattle.rate.specs.Answer.{answered}
 use Rattle.rate.specs.Decision.{remaining, resetAt, retryAfter, bare, reported, admitted, throttled}
 use Rattle.rate.specs.Engine.{judge}
 use Rattle.rate.specs.Grains.{ticksIn, price, capacity, divUp, oneTo, planOk, onClock}
-use Rattle.rate.specs.TokenBucket.{tokenBucket, fresh, sound, refilled, free, levelNow, backlog, admits, spend}
+use Rattle.token_bucket.specs.TokenBucket.{tokenBucket, fresh, sound, refilled, free, levelNow, backlog, admits, spend}
 use Rattle.table.specs.Checks.{slotsOk, queryCheck, costCheck, requestCheck, guard}
 use Rattle.table.specs.Rule.{ruleOf}
 use Rattle.table.specs.Slots.{common, seekFrom, seek, carries, own, vacant, lowestFree}
@@ -18,5 +18,5 @@ use Rattle.table.specs.Worked.{plan, ask, asks, line, answers, burstAnswer, nob
 use Rattle.token_bucket_table.specs.Table.{tableOf, columns}
 
 pub worked : (id level last : ℕ) → examples (ruleOf tokenBucket) columns (tableOf (id ∷ []) (level ∷ []) (last ∷ [])) ≡ expected
-unfolding answered remaining resetAt retryAfter bare reported admitted throttled judge ticksIn price capacity divUp oneTo planOk onClock tokenBucket fresh sound refilled free levelNow backlog admits spend slotsOk queryCheck costCheck requestCheck guard ruleOf common seekFrom seek carries own vacant lowestFree ruled newcomer judgeIn commit slotFrom slotFor judgeCall acquire clear plan ask asks line answers burstAnswer nobodyAnswer played examples expected columns
+unfolding answered remaining resetAt retryAfter bare reported admitted throttled judge ticksIn price capacity divUp oneTo planOk onClock tokenBucket fresh sound refilled free levelNow backlog admits spend slotsOk queryCheck costCheck requestCheck guard common seekFrom seek carries own vacant lowestFree ruled newcomer judgeIn commit slotFrom slotFor judgeCall acquire clear plan ask asks line answers burstAnswer nobodyAnswer played examples expected columns
 worked id level last = refl

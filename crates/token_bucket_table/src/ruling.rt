@@ -2,7 +2,7 @@
 ghost use mathlib.Core.Path.{_≡_};
 ghost use Rattle.rate.specs.Answer.{verdictOf, answered};
 ghost use Rattle.rate.specs.Engine.{judge};
-ghost use Rattle.rate.specs.TokenBucket.{tokenBucket};
+ghost use Rattle.token_bucket.specs.TokenBucket.{tokenBucket};
 ghost use Rattle.rate.specs.Grains.{InForce};
 ghost use Rattle.table.specs.Request.{requestOf};
 ghost use Rattle.table.specs.Rule.{ruleOf};
@@ -13,12 +13,11 @@ use crate::slot::Slot;
 use rate::answer::Outcome;
 use rate::answer::Reason;
 use rate::plan::Plan;
-use rate::token_bucket;
-use rate::token_bucket::Bucket;
 use rate::units::Millis;
 use table::check;
 use table::check::Check;
 use table::columns;
+use token_bucket::Bucket;
 
 // What is answered, and what is to be written.
 pub enum Ruling {

@@ -2,19 +2,18 @@
 ghost use mathlib.Core.Path.{_≡_};
 ghost use mathlib.Core.Bool.{_||_};
 ghost use lib.Dec.{eqb};
-ghost use Rattle.rate.specs.TokenBucket.{tokenBucket};
+ghost use Rattle.token_bucket.specs.TokenBucket.{tokenBucket};
 ghost use Rattle.table.specs.Request.{queryOf};
 ghost use Rattle.table.specs.Rule.{ruleOf};
 ghost use Rattle.table.specs.Slots.{lowestFree};
 ghost use Rattle.table.specs.Calls.{slotFor};
 ghost use Rattle.token_bucket_table.specs.Table.{tableOf, columns, bucketAt, slotOf, Even, Within};
 use rate::plan::Plan;
-use rate::token_bucket;
-use rate::token_bucket::Bucket;
 use rate::units::Millis;
 use rate::units::Ticks;
 use table::search;
 use table::search::Place;
+use token_bucket::Bucket;
 
 // A slot's place and the record in it.
 pub enum Slot {

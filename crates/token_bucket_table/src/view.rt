@@ -1,7 +1,7 @@
 // A peek: checks 1 to 4, then what the own record leaves. Without a slot the bucket is full.
 ghost use mathlib.Core.Path.{_≡_};
 ghost use Rattle.rate.specs.Answer.{verdictOf};
-ghost use Rattle.rate.specs.TokenBucket.{tokenBucket};
+ghost use Rattle.token_bucket.specs.TokenBucket.{tokenBucket};
 ghost use Rattle.table.specs.Request.{queryOf};
 ghost use Rattle.table.specs.Rule.{ruleOf};
 ghost use Rattle.table.specs.Calls.{held, peekVerdict};
@@ -9,14 +9,13 @@ ghost use Rattle.token_bucket_table.specs.Table.{tableOf, columns, Even}
 use crate::slot;
 use rate::answer::Outcome;
 use rate::plan::Plan;
-use rate::token_bucket;
-use rate::token_bucket::Bucket;
 use rate::units::Millis;
 use table::check;
 use table::check::Check;
 use table::columns;
 use table::search;
 use table::search::Place;
+use token_bucket::Bucket;
 
 // The record of a subscriber, a fresh one if it has no slot.
 fn held(

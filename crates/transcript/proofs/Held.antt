@@ -10,9 +10,9 @@ use native.Mathlib.Omega.{arith}
 use native.Mathlib.Nat.{eq-or-lt-of-le}
 use lib.ListN.{length, length-append}
 use borrow.Author.Tests.{le-leb, lt-leb}
+use Rattle.tsv.proofs.Lines.{endedLine}
 use Rattle.transcript.specs.Command.{lineCommand}
 use Rattle.transcript.specs.Stream.{State, mostHeld, heldCommand, kept, isHeld}
-use Rattle.transcript.proofs.Lines.{endedLine}
 
 -- the beginning of a line is kept whole, or its end is skipped
 pub data Holds (p : List ℕ) (σ : State) : Type 0 where

@@ -1,6 +1,7 @@
--- How long the output can get: an answer's line is at most 105 bytes, five cells of at most 21. A byte adds a line only if
--- it is an LF, and the end of the input at most one more.
+-- How long the output can get: the header is 35 bytes, and an answer's line at most 105, five cells of at most 21. A byte
+-- adds a line only if it is an LF, and the end of the input at most one more.
 -- Assumes nothing.
+use mathlib.Core.Path.{_≡_, refl}
 use mathlib.Core.Bool.{Bool, true, false, cond, _||_}
 use mathlib.Core.List.{List, [], _∷_}
 use Prim.Native.Nat.{ℕ, suc, _+_, _*_, _≤_}
@@ -14,19 +15,22 @@ use Rattle.table.specs.Calls.{Step}
 use Rattle.gcra_table.specs.Table.{Table, clear}
 use Rattle.tsv.specs.Text.{lf, tab}
 use Rattle.tsv.specs.Decimal.{cell}
-use Rattle.tsv.proofs.Digits.{digits-most}
+use Rattle.tsv.proofs.Digits.{digits-most, cell-length}
 use Rattle.transcript.specs.declared.command.Command.{Command}
 use Rattle.transcript.specs.declared.command.Command.the-variants.{Plan, Ask, Unreadable}
 use Rattle.transcript.specs.declared.session.Stage.{Stage}
 use Rattle.transcript.specs.declared.session.Stage.the-variants.{First, Open, Over}
-use Rattle.transcript.specs.Transcript.{line, refusal, mostSeats, turn}
+use Rattle.transcript.specs.Transcript.{header, line, refusal, mostSeats, turn}
 use Rattle.transcript.specs.Stream.{State, Told, part, closed, cleared, first, answer, heldCommand, atLf}
 use Rattle.transcript.specs.Stream.{says, moved, said, unended, isHeld, ending, endings, mostLine}
 use Rattle.transcript.proofs.Branches.{either}
 
+pub header-length : length header ≡ 35
+unfolding header
+header-length = refl
+
 pub cell-most : (n end : ℕ) → length (cell n end) ≤ 21
-unfolding cell
-cell-most n end = simp length-append (omega (arith, digits-most n))
+cell-most n end = omega (arith, cell-length n end, digits-most n)
 
 pub line-most : (n : Numbers) → length (line n) ≤ mostLine
 unfolding line

@@ -2,7 +2,6 @@
 pub mod Branches
 pub mod Putting
 pub mod Lengths
-pub mod Lines
 pub mod Reading
 pub mod Columns
 pub mod Held

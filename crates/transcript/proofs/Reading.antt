@@ -6,11 +6,11 @@ use mathlib.Core.Bool.{true, false}
 use mathlib.Core.List.{List, _∷_}
 use Prim.Native.Nat.{ℕ, _+_, _≤_, _<_}
 use native.Mathlib.Omega.{arith}
-use lib.Dec.{leb·zero}
 use lib.ListN.{length, take}
 use Rattle.tsv.specs.declared.field.Field as field
-use Rattle.tsv.specs.Text.{tab, fields, same, upTo}
+use Rattle.tsv.specs.Text.{tab, same, upTo}
 use Rattle.tsv.specs.Fields.{unreadable, number, fieldsAt, takeNumber, takenOf}
+use Rattle.tsv.proofs.Fields.{fields-all, taken-number, taken-unreadable}
 use Rattle.tsv.proofs.Scanning.{found-within}
 use Rattle.tsv.proofs.Splitting.{front, fields-beyond, fields-here}
 use Rattle.tsv.proofs.Within.{takes-within}
@@ -31,12 +31,10 @@ number-within {line} {most} {at} n = takes-within most (fieldsAt line at) (sym (
 -- as the reader of a field tells it
 module _ {line : List ℕ} {most at : ℕ} {f : field.Field} (told : takenOf line f ≡ takeNumber most (fieldsAt line at)) where
   pub number-at : {v next : ℕ} → f ≡ field.the-variants.Number v next → NumberAt line most at v next
-  unfolding takenOf
-  number-at e = record { takes = sym told ∙ ap (λ (f : field.Field). takenOf line f) e }
+  number-at e = record { takes = sym told ∙ taken-number line e }
 
   pub no-number-at : f ≡ field.the-variants.Unreadable → NoNumberAt line most at
-  unfolding takenOf
-  no-number-at e = record { takes = sym told ∙ ap (λ (f : field.Field). takenOf line f) e }
+  no-number-at e = record { takes = sym told ∙ taken-unreadable line e }
 
 -- the fields after `ask`
 module _ {line : List ℕ} {at : ℕ} where
@@ -95,10 +93,6 @@ module _ {line : List ℕ} {at : ℕ} where
           unfolding planOf then given last
           plan-read h = rw (s .takes, l .takes, p .takes, b .takes, fields-beyond line end h)
 
-all-fields : (line : List ℕ) → fieldsAt line 0 ≡ fields line
-unfolding fieldsAt
-all-fields line = rw (leb·zero (length line))
-
 -- the first word, up to the first tab
 module _ (line : List ℕ) {end : ℕ} (e : end ≡ 0 + length (upTo tab line)) where
   pub word-within : end ≤ length line
@@ -110,7 +104,7 @@ module _ (line : List ℕ) {end : ℕ} (e : end ≡ 0 + length (upTo tab line)) 
   command-is : command line ≡ worded (take end line ∷ fieldsAt line (end + 1))
   unfolding command
   command-is =
-      ap (λ (fs : List (List ℕ)). worded fs) (sym (all-fields line) ∙ fields-here line 0 (omega arith) e)
+      ap (λ (fs : List (List ℕ)). worded fs) (sym (fields-all line) ∙ fields-here line 0 (omega arith) e)
       ∙ ap (λ (word : List ℕ). worded (word ∷ fieldsAt line (end + 1))) word-is
 
   pub says-ask : same (take end line) askWord ≡ true → askOf (fieldsAt line (end + 1)) ≡ command line

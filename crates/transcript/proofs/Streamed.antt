@@ -10,11 +10,11 @@ use native.Mathlib.Omega.{arith}
 use lib.Dec.{leb, eqb}
 use lib.ListN.{length}
 use Rattle.tsv.specs.Text.{Line, lf, lines}
+use Rattle.tsv.proofs.Lines.{endedLine, continued, unbegun, continued-none, lines-none, lines-lf, lines-other}
 use Rattle.transcript.specs.Transcript.{mostSeats, header, transcript}
 use Rattle.transcript.specs.Stream.{State, mostHeld, kept, atLf, says, moved, said, after}
 use Rattle.transcript.specs.Stream.{unended, isHeld, ending, start}
 use Rattle.transcript.proofs.Branches.{either}
-use Rattle.transcript.proofs.Lines.{endedLine, continued, continued-none, lines-lf, lines-other}
 use Rattle.transcript.proofs.Held.{Holds, whole, held-command, kept-holds, holds-none, holds-some}
 use Rattle.transcript.proofs.Told.{Right, Fit, rest, answer-right, unended-right, rest-none}
 
@@ -69,8 +69,9 @@ unfolding ending
 ending-by σ e = ap (λ (t : Bool). cond t (unended (σ .stage)) []) e
 
 ending-still : (σ : State) (p : List ℕ) → Holds p σ → ending σ ≡ still σ (continued p [])
-unfolding still continued
-ending-still σ [] h = ending-by σ (holds-none σ h) ∙ sym (rest-none (σ .ids) (σ .tats) (σ .stage))
+unfolding still
+ending-still σ [] h =
+    ending-by σ (holds-none σ h) ∙ sym (rest-none (σ .ids) (σ .tats) (σ .stage)) ∙ ap (still σ) (sym (unbegun []))
 ending-still σ (b ∷ p) h =
     ending-by σ (holds-some b p σ h)
     ∙ unended-right (σ .ids) (σ .tats) (σ .stage) (b ∷ p)
@@ -82,18 +83,18 @@ Streams σ p s = said σ s ++ ending (after σ s) ≡ still σ (continued p (lin
 
 module _ (σ : State) (p : List ℕ) (fit : Fits σ) (h : Holds p σ) (b : ℕ) (s : List ℕ) where
   streams-lf : eqb b lf ≡ true → Streams (afterLf σ) [] s → Streams σ p (b ∷ s)
-  unfolding said after says moved continued
+  unfolding said after says moved
   streams-lf e ih =
       rw (e, lines-lf p b s e, lf-still σ p fit h (lines s), append-assoc)
-      (ap (λ (l : List ℕ). atLf σ .text ++ l) ih)
+      (ap (λ (l : List ℕ). atLf σ .text ++ l) (ih ∙ ap (still (afterLf σ)) (unbegun (lines s))))
 
   streams-other : eqb b lf ≡ false → Streams (kept σ b) (p ++ (b ∷ [])) s → Streams σ p (b ∷ s)
   unfolding said after says moved
   streams-other e ih = rw (e, lines-other p b s e) (ih ∙ sym (kept-still σ b (continued (p ++ (b ∷ [])) (lines s))))
 
 streams : (s : List ℕ) (σ : State) (p : List ℕ) → Fits σ → Holds p σ → Streams σ p s
-unfolding said after lines
-streams [] σ p fit h = ending-still σ p h
+unfolding said after
+streams [] σ p fit h = ending-still σ p h ∙ ap (λ (ls : List Line). still σ (continued p ls)) (sym lines-none)
 streams (b ∷ s) σ p fit h = by (eqb b lf) refl (streams s)
   where
     by :
@@ -106,7 +107,8 @@ streams (b ∷ s) σ p fit h = by (eqb b lf) refl (streams s)
 pub streamed :
     (ids tats text : List ℕ) → mostSeats ≤ length ids → mostSeats ≤ length tats →
     header ++ (said (start ids tats) text ++ ending (after (start ids tats) text)) ≡ transcript text
-unfolding transcript still rest continued
+unfolding transcript still rest
 streamed ids tats text i j =
     ap (λ (l : List ℕ). header ++ l)
-    (streams text (start ids tats) [] (record { in-ids = i; in-tats = j }) (whole (omega arith) refl refl))
+    (streams text (start ids tats) [] (record { in-ids = i; in-tats = j }) (whole (omega arith) refl refl)
+    ∙ ap (still (start ids tats)) (unbegun (lines text)))

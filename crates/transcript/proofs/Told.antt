@@ -16,7 +16,9 @@ use Rattle.rate.specs.Grains.{planOk}
 use Rattle.rate.proofs.Answers.{answered-number, bare-number}
 use Rattle.table.specs.Calls.{Step}
 use Rattle.gcra_table.specs.Table.{Table, tableOf, clear}
+use Rattle.gcra_table.proofs.Lengths.{SameLengths}
 use Rattle.tsv.specs.Text.{Line}
+use Rattle.tsv.proofs.Lines.{unendedLine}
 use Rattle.transcript.specs.declared.command.Command.{Command}
 use Rattle.transcript.specs.declared.command.Command.the-variants.{Plan, Ask, Unreadable}
 use Rattle.transcript.specs.declared.session.Stage.{Stage}
@@ -24,8 +26,7 @@ use Rattle.transcript.specs.declared.session.Stage.the-variants.{First, 
 use Rattle.transcript.specs.Command.{lineCommand}
 use Rattle.transcript.specs.Transcript.{line, refusal, mostSeats, turn, run, opening, begun, answers}
 use Rattle.transcript.specs.Stream.{Told, part, told, closed, cleared, first, answer, unended}
-use Rattle.transcript.proofs.Lines.{unendedLine}
-use Rattle.transcript.proofs.Columns.{SameLengths, turn-lengths, Room, put-back, room-back}
+use Rattle.transcript.proofs.Columns.{turn-lengths, Room, put-back, room-back}
 use Rattle.transcript.proofs.Columns.{zeros-lengths, clear-zeros, clear-refuses}
 
 -- what is still to be said of some lines

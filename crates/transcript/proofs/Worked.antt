@@ -5,7 +5,7 @@ use mathlib.Core.Path.{_≡_, refl}
 use Rattle.rate.specs.Answer.{answered}
 use Rattle.rate.specs.Decision.{remaining, resetAt, retryAfter, bare, reported, admitted, throttled}
 use Rattle.rate.specs.Engine.{judge}
-use Rattle.rate.specs.Gcra.{gcra, fresh, sound, free, later, backlog, admits, spend}
+use Rattle.gcra.specs.Gcra.{gcra, fresh, sound, free, later, backlog, admits, spend}
 use Rattle.rate.specs.Grains.{ticksIn, price, capacity, divUp, oneTo, planOk, onClock}
 use Rattle.table.specs.Checks.{slotsOk, queryCheck, costCheck, requestCheck, guard}
 use Rattle.table.specs.Rule.{ruleOf}
@@ -20,5 +20,5 @@ use Rattle.transcript.specs.Transcript.{line, header, opening, turn, run
 use Rattle.transcript.specs.Worked.{input, expected}
 
 pub worked : transcript input ≡ expected
-unfolding answered remaining resetAt retryAfter bare reported admitted throttled judge gcra fresh sound free later backlog admits spend ticksIn price capacity divUp oneTo planOk onClock slotsOk queryCheck costCheck requestCheck guard ruleOf common seekFrom seek carries own vacant lowestFree ruled newcomer judgeIn commit slotFrom slotFor judgeCall acquire columns longer lines wider fields same isDigit appended more onwards alone decimal digitsUpTo digits cell takenAs takeNumber given then last askOf planOf worded command lineCommand line header opening turn run begun answers transcript input expected
+unfolding answered remaining resetAt retryAfter bare reported admitted throttled judge gcra fresh sound free later backlog admits spend ticksIn price capacity divUp oneTo planOk onClock slotsOk queryCheck costCheck requestCheck guard common seekFrom seek carries own vacant lowestFree ruled newcomer judgeIn commit slotFrom slotFor judgeCall acquire columns longer lines wider fields same isDigit appended more onwards alone decimal digitsUpTo digits cell takenAs takeNumber given then last askOf planOf worded command lineCommand line header opening turn run begun answers transcript input expected
 worked = refl

@@ -5,7 +5,7 @@ use mathlib.Core.Path.{sym, ap, _∙_}
 use denote.Ref.{now}
 use Rattle.rate.specs.declared.units.Ticks.{Ticks}
 use Rattle.rate.proofs.Answers.{numbers}
-use Rattle.rate.specs.Gcra.{gcra}
+use Rattle.gcra.specs.Gcra.{gcra}
 use Rattle.table.specs.Request.{requestOf}
 use Rattle.table.specs.Rule.{ruleOf}
 use Rattle.table.specs.Calls.{Step, Ruling, commit}

@@ -6,7 +6,7 @@ use denote.Ref.{now}
 use Rattle.rate.specs.Decision.{Verdict}
 use Rattle.rate.specs.Answer.{answered}
 use Rattle.rate.proofs.Answers.{numbers}
-use Rattle.rate.specs.Gcra.{gcra}
+use Rattle.gcra.specs.Gcra.{gcra}
 use Rattle.table.specs.Request.{queryOf}
 use Rattle.table.specs.Rule.{ruleOf}
 use Rattle.table.proofs.Cases.{peek-answers}

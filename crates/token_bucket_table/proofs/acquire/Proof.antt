@@ -2,9 +2,9 @@
 -- Assumes nothing.
 use mathlib.Core.Path.{sym, ap, _∙_}
 use denote.Ref.{now}
-use Rattle.rate.specs.declared.token_bucket.Bucket.{Bucket}
+use Rattle.token_bucket.specs.declared.Bucket.{Bucket}
 use Rattle.rate.proofs.Answers.{numbers}
-use Rattle.rate.specs.TokenBucket.{tokenBucket}
+use Rattle.token_bucket.specs.TokenBucket.{tokenBucket}
 use Rattle.table.specs.Request.{requestOf}
 use Rattle.table.specs.Rule.{ruleOf}
 use Rattle.table.specs.Calls.{Step, Ruling, commit}

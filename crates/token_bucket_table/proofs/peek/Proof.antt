@@ -1,6 +1,6 @@
 -- `token_bucket_table::peek` meets its contract: it names the subscriber asked for.
 -- Assumes nothing.
-use Rattle.rate.specs.TokenBucket.{tokenBucket}
+use Rattle.token_bucket.specs.TokenBucket.{tokenBucket}
 use Rattle.table.specs.Request.{queryOf}
 use Rattle.table.specs.Rule.{ruleOf}
 use denote.Ref.{now}

@@ -1,12 +1,12 @@
 -- `gcra_table::ruling::commit` meets its contract: a ruling to keep writes nothing, the other one slot.
 -- Assumes nothing.
 use borrow.Author.Needs.{needs}
-use mathlib.Core.Path.{sym, ap, subst}
+use mathlib.Core.Path.{ap, subst}
 use Prim.Native.Nat.{_<_}
 use native.Mathlib.Omega.{arith}
 use lib.ListN.{length}
 use denote.Ref.{now}
-use Rattle.table.specs.Calls.{commit}
+use Rattle.table.proofs.Judging.{commits-keep, commits-write}
 use Rattle.gcra_table.specs.declared.ruling.Ruling.{Ruling}
 use Rattle.gcra_table.specs.Table.{tableOf, columns, rulingOf, Fitting}
 use Rattle.gcra_table.proofs.ruling.commit.Statement.{statement}
@@ -44,14 +44,11 @@ slice-write-tats : tie.Need-slice-write-tats
 slice-write-tats c = in-tats c
 
 returns : tie.Need-returns
-unfolding commit rulingOf columns
+unfolding rulingOf columns
 returns c =
     let S = c .before .before .before .args in
     let t = tableOf (now (S .ids)) (now (S .tats)) in
-    let told = c .before .ruling .given .1 in (
-      sym (ap (λ (x : Ruling). commit columns (S .subscriber) t (rulingOf x) .answer) told),
-      sym (ap (λ (x : Ruling). commit columns (S .subscriber) t (rulingOf x) .after) told),
-    )
+    commits-keep columns (S .subscriber) t (ap (λ (x : Ruling). rulingOf x) (c .before .ruling .given .1))
 
 same-length : tie.Need-same-length
 same-length c = search needs
@@ -60,14 +57,11 @@ same-length-2 : tie.Need-same-length-2
 same-length-2 c = search needs
 
 returns-2 : tie.Need-returns-2
-unfolding commit rulingOf columns
+unfolding rulingOf columns
 returns-2 c =
     let S = c .before .before .before .args in
     let t = tableOf (now (S .ids)) (now (S .tats)) in
-    let told = c .before .ruling2 .given .1 in (
-      sym (ap (λ (x : Ruling). commit columns (S .subscriber) t (rulingOf x) .answer) told),
-      sym (ap (λ (x : Ruling). commit columns (S .subscriber) t (rulingOf x) .after) told),
-    )
+    commits-write columns (S .subscriber) t (ap (λ (x : Ruling). rulingOf x) (c .before .ruling2 .given .1))
 
 pub commit-spec : {M : Type 1} → statement M
 commit-spec =

@@ -5,7 +5,7 @@ use mathlib.Core.Path.{sym, ap, _∙_}
 use Prim.Native.Nat.{ℕ}
 use lib.ListN.{length}
 use denote.Ref.{now}
-use Rattle.rate.specs.Gcra.{gcra}
+use Rattle.gcra.specs.Gcra.{gcra}
 use Rattle.table.specs.Request.{queryOf, requestOf}
 use Rattle.table.specs.Checks.{requestCheck}
 use Rattle.table.specs.Rule.{ruleOf}
@@ -73,7 +73,7 @@ rule-requires c κs =
     asked-in-force q slots (request-asked slots r says (c .before .before .before .before .enum-told .given .1))
 
 returns-3 : tie.Need-returns-3
-unfolding rulingOf columns slotOf ruleOf
+unfolding rulingOf columns slotOf
 returns-3 c =
     let S = c .before .before .before .before .before .before .before .before .before .before .before .args in
     let r = requestOf (S .plan) (S .moment .0) (S .subscriber) (S .cost) in

@@ -3,7 +3,7 @@
 use borrow.Author.Needs.{needs}
 use Rattle.gcra_table.specs.Table.{rulingOf}
 use Rattle.rate.specs.Engine.{judge}
-use Rattle.rate.specs.Gcra.{gcra}
+use Rattle.gcra.specs.Gcra.{gcra}
 use Rattle.table.proofs.Judging.{rules-writes, rules-keeps}
 use Rattle.gcra_table.proofs.ruling.rule.Statement.{statement}
 use Rattle.gcra_table.proofs.ruling.rule.Tie as tie

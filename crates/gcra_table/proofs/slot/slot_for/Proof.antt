@@ -5,7 +5,7 @@ use mathlib.Core.Path.{sym, ap, _∙_}
 use native.Mathlib.Omega.{arith}
 use denote.Ref.{now}
 use Rattle.rate.specs.declared.units.Ticks.{Ticks}
-use Rattle.rate.specs.Gcra.{gcra}
+use Rattle.gcra.specs.Gcra.{gcra}
 use Rattle.table.specs.Request.{queryOf}
 use Rattle.table.specs.Rule.{ruleOf}
 use Rattle.table.specs.Calls.{at}
@@ -63,7 +63,7 @@ fresh-requires : tie.Need-fresh-requires
 fresh-requires c κs = search needs
 
 returns-3 : tie.Need-returns-3
-unfolding slotOf ruleOf
+unfolding slotOf
 returns-3 c =
     let S = c .before .before .before .before .before .before .before .before .before .before .args in
     let q = queryOf (S .plan) (S .moment .0) (S .subscriber) in

@@ -4,7 +4,7 @@ use borrow.Author.Needs.{needs}
 use mathlib.Core.Path.{sym, _∙_}
 use native.Mathlib.Omega.{arith}
 use denote.Ref.{now}
-use Rattle.rate.specs.Gcra.{gcra}
+use Rattle.gcra.specs.Gcra.{gcra}
 use Rattle.table.specs.Request.{queryOf}
 use Rattle.table.specs.Rule.{ruleOf}
 use Rattle.table.proofs.Cases.{held-own, held-fresh}
@@ -27,7 +27,6 @@ fresh-requires : tie.Need-fresh-requires
 fresh-requires c κs = search needs
 
 returns : tie.Need-returns
-unfolding ruleOf
 returns c =
     let S = c .before .before .before .before .before .before .args in
     let q = queryOf (S .plan) (S .moment .0) (S .subscriber) in

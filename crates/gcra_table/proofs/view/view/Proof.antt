@@ -5,7 +5,7 @@ use mathlib.Core.Path.{ap, _∙_}
 use Prim.Native.Nat.{ℕ}
 use lib.ListN.{length}
 use denote.Ref.{now}
-use Rattle.rate.specs.Gcra.{gcra}
+use Rattle.gcra.specs.Gcra.{gcra}
 use Rattle.table.specs.Request.{queryOf}
 use Rattle.table.specs.Checks.{queryCheck}
 use Rattle.table.specs.Rule.{ruleOf}
@@ -54,7 +54,7 @@ report-requires c κs =
     asked-in-force q slots (query-asked slots q says (c .before .enum-told .given .1))
 
 returns-2 : tie.Need-returns-2
-unfolding columns ruleOf
+unfolding columns
 returns-2 c =
     let S = c .before .before .before .before .before .before .before .before .args in
     let q = queryOf (S .plan) (S .moment .0) (S .subscriber) in

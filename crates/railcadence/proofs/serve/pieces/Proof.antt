@@ -4,7 +4,8 @@ use borrow.Author.Needs.{needs}
 use native.Mathlib.Omega.{arith}
 use mathlib.Core.Path.{_∙_}
 use Rattle.transcript.specs.Running.{Ready}
-use Rattle.railcadence.proofs.Suffices.{starts, ends, goes-on, Same, same-start, same-lent, same-ample}
+use Rattle.transcript.proofs.Entire.{ready-start}
+use Rattle.railcadence.proofs.Suffices.{ends, goes-on, Same, same-start, same-lent, same-ample}
 use Rattle.railcadence.proofs.serve.pieces.Statement.{statement}
 use Rattle.railcadence.proofs.serve.pieces.Tie as tie
 
@@ -18,7 +19,7 @@ start-requires : tie.Need-start-requires Inv-loop μ-loop
 start-requires c κs = search needs
 
 loop-holds : tie.Need-loop-holds Inv-loop μ-loop
-loop-holds c = (starts _ (c .start .ensures) (c .before .before .before .before .before .before .pre .0), same-start _ _ _ _ _)
+loop-holds c = (ready-start _ _ (c .start .ensures) (c .before .before .before .before .before .before .pre .0), same-start _ _ _ _ _)
 
 turn-requires : tie.Need-turn-requires Inv-loop μ-loop
 turn-requires c κs =

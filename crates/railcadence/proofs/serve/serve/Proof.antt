@@ -1,21 +1,19 @@
 -- `railcadence::serve::serve` meets its contract: the header fits the output, and the buffers stay as long as they are.
 -- Assumes nothing.
 use native.Mathlib.Omega.{arith}
-use Rattle.transcript.specs.Transcript.{header}
+use Rattle.transcript.proofs.Lengths.{header-length}
 use borrow.Author.Needs.{needs}
 use Rattle.railcadence.proofs.serve.serve.Statement.{statement}
 use Rattle.railcadence.proofs.serve.serve.Tie as tie
 
 put-header-requires : tie.Need-put-header-requires
-unfolding header
-put-header-requires c κs = omega (arith, c .before .before .before .before .before .before .pre .1 .1 .one-line)
+put-header-requires c κs = omega (arith, header-length, c .before .before .before .before .before .before .pre .1 .1 .one-line)
 
 write-requires : tie.Need-write-requires
-unfolding header
 write-requires c κs =
     let p3 = c .before .before .before in
     let p10 = p3 .before .before .before .before .before .before .before in
-    omega (arith, p3 .put-header .ensures .0, c .before .before .out .given, p10 .pre .1 .1 .one-line)
+    omega (arith, header-length, p3 .put-header .ensures .0, c .before .before .out .given, p10 .pre .1 .1 .one-line)
 
 pieces-requires : tie.Need-pieces-requires
 pieces-requires c κs =

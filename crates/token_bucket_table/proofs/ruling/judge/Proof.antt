@@ -3,7 +3,7 @@
 use mathlib.Core.Path.{sym, ap, _∙_}
 use Prim.Native.Nat.{ℕ}
 use denote.Ref.{now}
-use Rattle.rate.specs.TokenBucket.{tokenBucket}
+use Rattle.token_bucket.specs.TokenBucket.{tokenBucket}
 use Rattle.table.specs.Request.{queryOf, requestOf}
 use Rattle.table.specs.Checks.{requestCheck}
 use Rattle.table.specs.Rule.{ruleOf}
@@ -75,7 +75,7 @@ rule-requires c κs =
     asked-in-force q _ (request-asked _ r says (c .before .before .before .before .enum-told .given .1))
 
 returns-3 : tie.Need-returns-3
-unfolding rulingOf slotOf ruleOf
+unfolding rulingOf slotOf
 returns-3 c =
     let S = c .before .before .before .before .before .before .before .before .before .before .before .before .before .args in
     let t = tableOf (now (S .ids)) (now (S .levels)) (now (S .lasts)) in

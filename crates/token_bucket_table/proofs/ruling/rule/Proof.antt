@@ -2,7 +2,7 @@
 -- Assumes nothing.
 use Rattle.token_bucket_table.specs.Table.{rulingOf}
 use Rattle.rate.specs.Engine.{judge}
-use Rattle.rate.specs.TokenBucket.{tokenBucket}
+use Rattle.token_bucket.specs.TokenBucket.{tokenBucket}
 use Rattle.table.proofs.Judging.{rules-writes, rules-keeps}
 use borrow.Author.Needs.{needs}
 use Rattle.token_bucket_table.proofs.ruling.rule.Statement.{statement}

@@ -1,6 +1,6 @@
 -- `token_bucket_table::slot::lowest_free` meets its contract: no slot before i is free.
 -- Assumes nothing.
-use Rattle.rate.specs.TokenBucket.{tokenBucket}
+use Rattle.token_bucket.specs.TokenBucket.{tokenBucket}
 use Rattle.table.specs.Request.{queryOf}
 use Rattle.table.specs.Rule.{ruleOf}
 use denote.Ref.{now}
@@ -12,7 +12,7 @@ use mathlib.Core.Path.{refl, sym, ap, _∙_}
 use mathlib.Core.Bool.{_||_}
 use lib.Dec.{eqb}
 use lib.ListN.{getD}
-use Rattle.rate.specs.declared.token_bucket.Bucket.{Bucket}
+use Rattle.token_bucket.specs.declared.Bucket.{Bucket}
 use Rattle.table.specs.Slots.{vacant}
 use Rattle.table.proofs.Slots.{vacant-test}
 use Rattle.table.proofs.Seek.{NoneBelow, none-next, seek-end, seek-here}

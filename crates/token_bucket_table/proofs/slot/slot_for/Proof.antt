@@ -1,11 +1,11 @@
 -- `token_bucket_table::slot::slot_for` meets its contract: the own slot, or a newcomer's, or none.
 -- Assumes nothing.
-use Rattle.rate.specs.TokenBucket.{tokenBucket}
+use Rattle.token_bucket.specs.TokenBucket.{tokenBucket}
 use Rattle.table.specs.Request.{queryOf}
 use Rattle.table.specs.Rule.{ruleOf}
 use denote.Ref.{now}
 use mathlib.Core.Path.{sym, ap, _∙_}
-use Rattle.rate.specs.declared.token_bucket.Bucket.{Bucket}
+use Rattle.token_bucket.specs.declared.Bucket.{Bucket}
 use Rattle.table.specs.Calls.{at}
 use Rattle.table.proofs.Cases.{slot-own, slot-new, slot-none}
 use Rattle.table.proofs.Seek.{found-within}
@@ -60,7 +60,7 @@ fresh-requires : tie.Need-fresh-requires
 fresh-requires c κs = search needs
 
 returns-3 : tie.Need-returns-3
-unfolding slotOf ruleOf
+unfolding slotOf
 returns-3 c =
     let S = c .before .before .before .before .before .before .before .before .before .before .before .args in
     let t = tableOf (now (S .ids)) (now (S .levels)) (now (S .lasts)) in

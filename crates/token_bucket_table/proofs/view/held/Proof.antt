@@ -1,6 +1,6 @@
 -- `token_bucket_table::view::held` meets its contract: the own record, or a fresh one.
 -- Assumes nothing.
-use Rattle.rate.specs.TokenBucket.{tokenBucket}
+use Rattle.token_bucket.specs.TokenBucket.{tokenBucket}
 use Rattle.table.specs.Request.{queryOf}
 use Rattle.table.specs.Rule.{ruleOf}
 use denote.Ref.{now}
@@ -27,7 +27,6 @@ fresh-requires : tie.Need-fresh-requires
 fresh-requires c κs = search needs
 
 returns : tie.Need-returns
-unfolding ruleOf
 returns c =
     let S = c .before .before .before .before .before .before .before .args in
     let t = tableOf (now (S .ids)) (now (S .levels)) (now (S .lasts)) in

@@ -1,6 +1,6 @@
 -- `token_bucket_table::view::view` meets its contract: a check that applies, or the own record's report.
 -- Assumes nothing.
-use Rattle.rate.specs.TokenBucket.{tokenBucket}
+use Rattle.token_bucket.specs.TokenBucket.{tokenBucket}
 use Rattle.table.specs.Request.{queryOf}
 use Rattle.table.specs.Rule.{ruleOf}
 use denote.Ref.{now}
@@ -55,7 +55,6 @@ report-requires c κs =
     asked-in-force q _ (query-asked _ q says (c .before .enum-told .given .1))
 
 returns-2 : tie.Need-returns-2
-unfolding ruleOf
 returns-2 c =
     let S = c .before .before .before .before .before .before .before .before .before .before .args in
     let t = tableOf (now (S .ids)) (now (S .levels)) (now (S .lasts)) in

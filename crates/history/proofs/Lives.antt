@@ -1,0 +1,14 @@
+-- GCRA and the token bucket agree over the life of one record, without a table: the same answers and the same backlog.
+-- Assumes nothing.
+use mathlib.Core.List.{List}
+use Prim.Native.Nat.{ℕ}
+use Rattle.rate.specs.declared.plan.Plan.{Plan}
+use Rattle.rate.specs.Life.{Ask, Rising, Agreement}
+use Rattle.rate.proofs.Life.{lives-agree}
+use Rattle.gcra.specs.Gcra.{gcra}
+use Rattle.gcra.proofs.Laws.{gcra-lawful}
+use Rattle.token_bucket.specs.TokenBucket.{tokenBucket}
+use Rattle.token_bucket.proofs.Laws.{token-bucket-lawful}
+
+pub engines-agree : (p : Plan) (from : ℕ) (asks : List Ask) → Rising from asks → Agreement gcra tokenBucket p from asks
+engines-agree = lives-agree gcra-lawful token-bucket-lawful
