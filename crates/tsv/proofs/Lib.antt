@@ -1,8 +1,11 @@
 -- The laws of tabbed text, lowest first.
+pub mod Lines
 pub mod Scanning
 pub mod Splitting
+pub mod Fields
 pub mod Reading
 pub mod Within
 pub mod Digits
 pub mod Writing
 pub mod WrittenRead
+pub mod Walking
