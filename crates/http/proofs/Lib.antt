@@ -1,0 +1,5 @@
+-- The laws of this crate, lowest first.
+pub mod Cases
+pub mod Least
+pub mod Client
+pub mod Worked

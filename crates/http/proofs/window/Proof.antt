@@ -1,0 +1,28 @@
+-- `http::window` meets its contract: the time in which a full bucket drains, in seconds.
+-- Assumes nothing.
+use borrow.Author.Needs.{needs}
+use mathlib.Core.Path.{ap, _∙_}
+use Prim.Native.Nat.{ℕ}
+use Rattle.rate.specs.Grains.{divUp}
+use Rattle.http.specs.Fields.{seconds, windowOf}
+use Rattle.http.proofs.window.Statement.{statement}
+use Rattle.http.proofs.window.Tie as tie
+
+capacity-requires : tie.Need-capacity-requires
+capacity-requires c κs = search needs
+
+millis-to-drain-requires : tie.Need-millis-to-drain-requires
+millis-to-drain-requires c κs = search needs
+
+seconds-requires : tie.Need-seconds-requires
+seconds-requires c κs = search needs
+
+returns : tie.Need-returns
+unfolding windowOf
+returns c =
+    c .seconds .ensures
+    ∙ ap (λ (n : ℕ). seconds n) (c .before .millis-to-drain .ensures ∙ ap (λ (n : ℕ). divUp n (c .before .before .before .args .plan .limit)) (c .before .before .capacity .ensures))
+
+pub window-spec : {M : Type 1} → statement M
+window-spec =
+    tie.close (tie.spec capacity-requires millis-to-drain-requires seconds-requires returns)

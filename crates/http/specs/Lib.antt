@@ -1,0 +1,2 @@
+-- What a reader must believe of what an HTTP response says.
+pub mod Fields
