@@ -1,11 +1,11 @@
--- `railcadence_c::gcra::railcadence_gcra_clear` meets its contract: the numbers of the answer, and the columns as the call left them.
+-- `railcadence_c::gcra_calls::railcadence_gcra_clear` meets its contract: the numbers of the answer, and the columns as the call left them.
 -- Assumes nothing.
 use borrow.Author.Needs.{needs}
 use mathlib.Core.Path.{ap, _∙_}
 use Rattle.rate.specs.declared.answer.Numbers.{Numbers}
 use Rattle.railcadence_c.specs.Five.{five}
-use Rattle.railcadence_c.proofs.gcra.railcadence_gcra_clear.Statement.{statement}
-use Rattle.railcadence_c.proofs.gcra.railcadence_gcra_clear.Tie as tie
+use Rattle.railcadence_c.proofs.gcra_calls.railcadence_gcra_clear.Statement.{statement}
+use Rattle.railcadence_c.proofs.gcra_calls.railcadence_gcra_clear.Tie as tie
 
 clear-requires : tie.Need-clear-requires
 clear-requires c κs = search needs

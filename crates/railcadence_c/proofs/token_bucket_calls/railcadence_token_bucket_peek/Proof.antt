@@ -1,11 +1,13 @@
--- `railcadence_c::gcra::railcadence_gcra_peek` meets its contract: the numbers of the answer.
+-- `railcadence_c::token_bucket_calls::railcadence_token_bucket_peek` meets its contract: the numbers of the answer.
 -- Assumes nothing.
-use borrow.Author.Needs.{needs}
 use mathlib.Core.Path.{ap, _∙_}
 use Rattle.rate.specs.declared.answer.Numbers.{Numbers}
 use Rattle.railcadence_c.specs.Five.{five}
-use Rattle.railcadence_c.proofs.gcra.railcadence_gcra_peek.Statement.{statement}
-use Rattle.railcadence_c.proofs.gcra.railcadence_gcra_peek.Tie as tie
+use borrow.Author.Needs.{needs}
+use Rattle.railcadence_c.proofs.token_bucket_calls.railcadence_token_bucket_peek.Statement.{
+  statement,
+}
+use Rattle.railcadence_c.proofs.token_bucket_calls.railcadence_token_bucket_peek.Tie as tie
 
 peek-requires : tie.Need-peek-requires
 peek-requires c κs = search needs
@@ -19,6 +21,6 @@ five-requires c κs = search needs
 returns : tie.Need-returns
 returns c = c .five .ensures ∙ ap (λ (n : Numbers). five n) (c .before .to-numbers .ensures ∙ c .before .before .peek .ensures)
 
-pub railcadence-gcra-peek-spec : {M : Type 1} → statement M
-railcadence-gcra-peek-spec =
+pub railcadence-token-bucket-peek-spec : {M : Type 1} → statement M
+railcadence-token-bucket-peek-spec =
     tie.close (tie.spec peek-requires to-numbers-requires five-requires returns)

@@ -1,13 +1,13 @@
--- `railcadence_c::token_bucket::railcadence_token_bucket_acquire` meets its contract: the numbers of the answer, and the columns as the call left them.
+-- `railcadence_c::token_bucket_calls::railcadence_token_bucket_acquire` meets its contract: the numbers of the answer, and the columns as the call left them.
 -- Assumes nothing.
 use mathlib.Core.Path.{ap, _∙_}
 use Rattle.rate.specs.declared.answer.Numbers.{Numbers}
 use Rattle.railcadence_c.specs.Five.{five}
 use borrow.Author.Needs.{needs}
-use Rattle.railcadence_c.proofs.token_bucket.railcadence_token_bucket_acquire.Statement.{
+use Rattle.railcadence_c.proofs.token_bucket_calls.railcadence_token_bucket_acquire.Statement.{
   statement,
 }
-use Rattle.railcadence_c.proofs.token_bucket.railcadence_token_bucket_acquire.Tie as tie
+use Rattle.railcadence_c.proofs.token_bucket_calls.railcadence_token_bucket_acquire.Tie as tie
 
 acquire-requires : tie.Need-acquire-requires
 acquire-requires c κs = search needs
