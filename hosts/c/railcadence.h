@@ -1,24 +1,29 @@
-/* Railcadence: a rate limiter over tables that the caller lends.
+/* NAME
+ *     railcadence - a rate limiter over tables that the caller lends
  *
- * A plan allows `limit` units per `period` milliseconds, and up to `burst` units at once. A
- * subscriber's request has a cost in units. The answer is that it is admitted, or for how many
- * milliseconds it must wait, or why it is refused.
+ * SYNOPSIS
+ *     #include "railcadence.h"
+ *     gcc -std=c11 -o program program.c librailcadence_c.a
  *
- * Two engines keep a plan, GCRA and the token bucket, each with calls and columns of its own. On
- * cleared tables with equally many slots, the same calls under one plan get the same answers from
- * both, as long as the moments never fall from one clear to the next; where they fall, the answers
- * may differ. GCRA stores one number a slot, the token bucket two.
+ *     railcadence_gcra_acquire          railcadence_token_bucket_acquire
+ *     railcadence_gcra_peek             railcadence_token_bucket_peek
+ *     railcadence_gcra_clear            railcadence_token_bucket_clear
+ *     railcadence_transcribe            railcadence_http_fields
  *
- * The table. The caller owns it: columns of one length, with an entry for each slot. Slot i is
- * ids[i] and the engine's record for it: tats[i] for GCRA, levels[i] and lasts[i] for the token
- * bucket. A slot whose id is 0 is empty, whatever its other columns say; zeros everywhere are an
- * empty table, and that is what a clear makes. A subscriber without a slot gets the lowest free one
- * when it is admitted. A slot is free if it is empty or its subscriber owes nothing any more, so a
- * table needs as many slots as subscribers owe something at the same time.
+ *     The archive is for x86-64 programs, and needs nothing but memset. C++ may include this file.
  *
- * Tats and levels are counted in ticks. A millisecond is `limit` ticks and a unit costs `period`
- * ticks, so keep a table to one plan, and clear it before it serves another.
+ * DESCRIPTION
+ *     A plan allows `limit` units per `period` milliseconds, and up to `burst` units at once. A
+ *     subscriber's request has a cost in units. The answer is that it is admitted, or for how many
+ *     milliseconds it must wait, or why it is refused.
  *
+ *     Two engines keep a plan, GCRA and the token bucket, each with calls and columns of its own.
+ *     On cleared tables with equally many slots, the same calls under one plan get the same
+ *     answers from both, as long as the moments never fall from one clear to the next; where they
+ *     fall, the answers may differ. GCRA stores one number a slot, the token bucket two. What each
+ *     call does stands at its prototype. No clock is read: the moment is an argument.
+ *
+ * UNITS AND RANGES
  *     argument        least  most
  *     limit           1      1000000                   units
  *     period          1      2678400000 (31 days)      milliseconds
@@ -28,39 +33,64 @@
  *     subscriber      1      4294967295                a number for whoever asks
  *     cost            1      burst                     units
  *
- * Any values may be passed: outside these limits the answer says so, and no column is written.
+ *     Any values may be passed: outside these limits the answer says so, and no column is written.
  *
- * The answer. Every call writes five numbers to out:
+ * THE TABLE
+ *     Columns of one length, with an entry for each slot. Slot i is ids[i] and the engine's record
+ *     for it: tats[i] for GCRA, levels[i] and lasts[i] for the token bucket. A slot whose id is 0
+ *     is empty, whatever its other columns say; zeros everywhere are an empty table, and that is
+ *     what a clear makes. A subscriber without a slot gets the lowest free one when it is
+ *     admitted. A slot is free if it is empty or its subscriber owes nothing any more, so a table
+ *     needs as many slots as subscribers owe something at the same time.
+ *
+ *     Tats and levels are counted in ticks. A millisecond is `limit` ticks and a unit costs
+ *     `period` ticks, so keep a table to one plan, and clear it before it serves another. Between
+ *     calls the columns may be read, copied and saved; a table that is loaded again goes on where
+ *     it was.
+ *
+ * THE ANSWER
+ *     Every call of an engine writes five numbers to out:
  *
  *     out[RAILCADENCE_NUMBER]      the outcome, below
  *     out[RAILCADENCE_SUBSCRIBER]  the subscriber asked for, in refusals too; 0 for a clear
  *     out[RAILCADENCE_LEFT]        whole units left after the call
  *     out[RAILCADENCE_RESET]       the moment at which nothing is owed any more, rounded down
- *     out[RAILCADENCE_WAIT]        under 8, the least number of milliseconds after which the same
- *                                  request is admitted, if nothing else is admitted meanwhile and
- *                                  that moment is within its limit; otherwise 0
+ *     out[RAILCADENCE_WAIT]        when throttled, the least number of milliseconds after which the
+ *                                  same request is admitted, if nothing else is admitted meanwhile
+ *                                  and that moment is within its limit; otherwise 0
  *
- * The first line that applies gives the outcome. Under 1 to 7 and 9, and in the answer to a clear,
- * left, reset and wait are 0.
+ *     The first line that applies gives the outcome. Under 1 to 7 and 9, and in the answer to a
+ *     clear, left, reset and wait are 0.
  *
- *     1  limit, period or burst outside its limits
- *     2  the columns are of different lengths, or have too few or too many slots
- *     3  the moment is above its limit
- *     4  subscriber 0
- *     5  cost 0
- *     6  the cost is above the burst, and can never be admitted
- *     7  the subscriber's own slot holds what no admission up to this moment can have left
- *     8  not now: wait
- *     9  the subscriber has no slot, and none is free
- *     0  admitted; of a peek, the report; of a clear, done
+ *     1  RAILCADENCE_BAD_PLAN          limit, period or burst outside its limits
+ *     2  RAILCADENCE_BAD_TABLE         the columns are of different lengths, or have too few or too
+ *                                      many slots
+ *     3  RAILCADENCE_LATE_MOMENT       the moment is above its limit
+ *     4  RAILCADENCE_NO_SUBSCRIBER     subscriber 0
+ *     5  RAILCADENCE_ZERO_COST         cost 0
+ *     6  RAILCADENCE_COST_ABOVE_BURST  the cost can never be admitted
+ *     7  RAILCADENCE_CORRUPT_RECORD    the subscriber's own slot holds what no admission up to this
+ *                                      moment can have left
+ *     8  RAILCADENCE_THROTTLED         not now: wait
+ *     9  RAILCADENCE_TABLE_FULL        the subscriber has no slot, and none is free
+ *     0  RAILCADENCE_ADMITTED          admitted; of a peek, the report; of a clear, done
  *
- * Memory. Each column pointer must be aligned, not null even where the length is 0, and valid for
- * as many elements as its length says: for reading, and for writing unless it is const. out must
- * be valid for writing five numbers; what it held does not matter. The columns must not overlap
- * each other or out.
+ * MEMORY
+ *     The caller owns all of it. Nothing is allocated, kept after the call, or freed.
  *
- * Nothing is allocated, kept or freed, and no clock is read. There is no global state: different
- * tables may be used by different threads at once, and one table by one thread at a time.
+ *     Each column pointer must be aligned, and valid for as many elements as its length says: for
+ *     reading, and for writing unless it is const. A column of length 0 may be NULL: it is neither
+ *     read nor written, and the outcome is 2, or 1 if the plan is bad too. out must be valid for
+ *     writing five numbers, and not NULL; what it held does not matter. The columns must not
+ *     overlap each other or out.
+ *
+ * THREADS
+ *     One table serves one caller at a time: whoever calls from several threads holds a lock on
+ *     the table. Only peeks of a table may overlap each other. There is no global state, so
+ *     different tables may be used at the same time.
+ *
+ * EXAMPLE
+ *     shop.c beside this file is a short program, example.c a longer one with both engines.
  */
 #ifndef RAILCADENCE_H
 #define RAILCADENCE_H
@@ -80,6 +110,20 @@ enum {
     RAILCADENCE_RESET,
     RAILCADENCE_WAIT,
     RAILCADENCE_NUMBERS
+};
+
+/* The outcomes. */
+enum {
+    RAILCADENCE_ADMITTED,
+    RAILCADENCE_BAD_PLAN,
+    RAILCADENCE_BAD_TABLE,
+    RAILCADENCE_LATE_MOMENT,
+    RAILCADENCE_NO_SUBSCRIBER,
+    RAILCADENCE_ZERO_COST,
+    RAILCADENCE_COST_ABOVE_BURST,
+    RAILCADENCE_CORRUPT_RECORD,
+    RAILCADENCE_THROTTLED,
+    RAILCADENCE_TABLE_FULL
 };
 
 /* The GCRA engine. Its record is one number, the TAT: the moment at which nothing is owed any more,
@@ -110,9 +154,6 @@ void railcadence_gcra_clear(uint32_t *ids, size_t ids_len,
  * ticks, of which a full bucket has period * burst; and the moment of that admission, in
  * milliseconds. Its calls are those of GCRA with one column more. */
 
-/* Decides on a request, and spends its cost if it is admitted. Only outcome 0 writes in the
- * columns, and only in the subscriber's slot; a request that must wait leaves the level and the
- * moment as they were. */
 void railcadence_token_bucket_acquire(uint32_t limit, uint32_t period, uint32_t burst,
                                       uint32_t *ids, size_t ids_len,
                                       uint64_t *levels, size_t levels_len,
@@ -120,8 +161,6 @@ void railcadence_token_bucket_acquire(uint32_t limit, uint32_t period, uint32_t 
                                       uint64_t moment, uint32_t subscriber, uint32_t cost,
                                       uint64_t out[RAILCADENCE_NUMBERS]);
 
-/* Reports what a subscriber has left and when nothing is owed, and spends nothing: outcomes 1 to 4
- * and 7, otherwise 0. A subscriber without a slot has the whole burst left. Writes no column. */
 void railcadence_token_bucket_peek(uint32_t limit, uint32_t period, uint32_t burst,
                                    const uint32_t *ids, size_t ids_len,
                                    const uint64_t *levels, size_t levels_len,
@@ -129,11 +168,71 @@ void railcadence_token_bucket_peek(uint32_t limit, uint32_t period, uint32_t bur
                                    uint64_t moment, uint32_t subscriber,
                                    uint64_t out[RAILCADENCE_NUMBERS]);
 
-/* Makes every column all zeros, outcome 0; or outcome 2, and no column is written. */
 void railcadence_token_bucket_clear(uint32_t *ids, size_t ids_len,
                                     uint64_t *levels, size_t levels_len,
                                     uint64_t *lasts, size_t lasts_len,
                                     uint64_t out[RAILCADENCE_NUMBERS]);
+
+/* The tabbed text: a plan line and asks, as the program railcadence reads them on standard input;
+ * here a whole text at once, from memory to memory.
+ *
+ * Writes to out what the program prints: the header, and a line for each answer. ids and tats are
+ * the GCRA table: a good first line clears as many slots as it names, and the asks use these; the
+ * other slots, and all of them where the first line is refused, stay as they were. Bytes of out
+ * after the text stay, and no NUL is added.
+ *
+ *     ids_len, tats_len  at least 1024 each, however few slots the text names; they may differ
+ *     out_len            at least 35 + 105 * (n + 1), where n is the number of LFs in text
+ *
+ * Any bytes are a text, none too. result gets two numbers:
+ *
+ *     result[RAILCADENCE_RESULT]  the first that applies of RAILCADENCE_SHORT_TABLE,
+ *                                 RAILCADENCE_SHORT_OUTPUT and RAILCADENCE_WRITTEN
+ *     result[RAILCADENCE_BYTES]   how many bytes were written to out; 0 if it is not
+ *                                 RAILCADENCE_WRITTEN
+ *
+ * If it is not RAILCADENCE_WRITTEN, nothing but result is written. MEMORY holds here too: what has
+ * length 0 may be NULL, result must be valid for writing two numbers, and what is not const must
+ * overlap nothing else. */
+enum {
+    RAILCADENCE_RESULT,
+    RAILCADENCE_BYTES,
+    RAILCADENCE_TEXT_NUMBERS
+};
+
+enum {
+    RAILCADENCE_WRITTEN,
+    RAILCADENCE_SHORT_TABLE,
+    RAILCADENCE_SHORT_OUTPUT
+};
+
+void railcadence_transcribe(const uint8_t *text, size_t text_len,
+                            uint32_t *ids, size_t ids_len,
+                            uint64_t *tats, size_t tats_len,
+                            uint8_t *out, size_t out_len,
+                            uint64_t result[RAILCADENCE_TEXT_NUMBERS]);
+
+/* What to tell a client over HTTP: RateLimit-Policy: "shop";q=QUOTA;w=WINDOW, RateLimit:
+ * "shop";r=REMAINING;t=RESET, and beside status 429 Retry-After: RETRY_AFTER. All times are whole
+ * seconds, rounded up. The places of the five numbers in out, and how many there are. */
+enum {
+    RAILCADENCE_HTTP_QUOTA,       /* the burst */
+    RAILCADENCE_HTTP_WINDOW,      /* in which a whole burst is earned */
+    RAILCADENCE_HTTP_REMAINING,   /* under 0 and 8, what is left; otherwise 0 */
+    RAILCADENCE_HTTP_RESET,       /* under 0 and 8, from the moment to the reset; otherwise 0 */
+    RAILCADENCE_HTTP_RETRY_AFTER, /* under 8, the wait: a client that waits so long is admitted, if
+                                   * nothing else is admitted meanwhile, and a second less is not
+                                   * enough; otherwise 0 */
+    RAILCADENCE_HTTP_FIELDS
+};
+
+/* Reckons the fields for an answer that an acquire or a peek under this plan gave at this moment.
+ * Any numbers may be passed: outside its limits a plan gives five zeros. answer must be valid for
+ * reading five numbers, out for writing five; they must not overlap. */
+void railcadence_http_fields(uint32_t limit, uint32_t period, uint32_t burst,
+                             uint64_t moment,
+                             const uint64_t answer[RAILCADENCE_NUMBERS],
+                             uint64_t out[RAILCADENCE_HTTP_FIELDS]);
 
 #ifdef __cplusplus
 }

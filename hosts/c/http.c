@@ -1,0 +1,73 @@
+/* What a host tells its clients: the status line and the header fields of a response, for requests
+ * under document 01's plan and under one of a unit a minute. Each response comes after the request
+ * that it answers: moment, subscriber and cost.
+ *
+ *     gcc -std=c11 -o http http.c FOLDER/librailcadence_c.a
+ */
+#include "railcadence.h"
+
+#include <inttypes.h>
+#include <stdio.h>
+
+#define SLOTS 1
+
+struct gate {
+    uint32_t limit, period, burst;
+    uint32_t ids[SLOTS];
+    uint64_t tats[SLOTS];
+};
+
+/* Statuses of refusals are the host's own choice; this one takes its own mistakes for 500. */
+static const char *status(uint64_t number)
+{
+    switch (number) {
+    case 0: return "200 OK";
+    case 5:
+    case 6: return "400 Bad Request";
+    case 8: return "429 Too Many Requests";
+    case 9: return "503 Service Unavailable";
+    default: return "500 Internal Server Error";
+    }
+}
+
+/* What is left and the reset are known under 0 and 8 alone. */
+static void print_fields(uint64_t number, const uint64_t field[RAILCADENCE_HTTP_FIELDS])
+{
+    printf("RateLimit-Policy: \"shop\";q=%" PRIu64 ";w=%" PRIu64 "\n",
+           field[RAILCADENCE_HTTP_QUOTA], field[RAILCADENCE_HTTP_WINDOW]);
+    if (number == 0 || number == 8)
+        printf("RateLimit: \"shop\";r=%" PRIu64 ";t=%" PRIu64 "\n",
+               field[RAILCADENCE_HTTP_REMAINING], field[RAILCADENCE_HTTP_RESET]);
+    if (field[RAILCADENCE_HTTP_RETRY_AFTER] != 0)
+        printf("Retry-After: %" PRIu64 "\n", field[RAILCADENCE_HTTP_RETRY_AFTER]);
+}
+
+static void respond(struct gate *gate, uint64_t moment, uint32_t subscriber, uint32_t cost)
+{
+    uint64_t answer[RAILCADENCE_NUMBERS], field[RAILCADENCE_HTTP_FIELDS];
+    railcadence_gcra_acquire(gate->limit, gate->period, gate->burst, gate->ids, SLOTS, gate->tats,
+                             SLOTS, moment, subscriber, cost, answer);
+    railcadence_http_fields(gate->limit, gate->period, gate->burst, moment, answer, field);
+    printf("acquire %" PRIu64 " %" PRIu32 " %" PRIu32 "\n", moment, subscriber, cost);
+    printf("HTTP/1.1 %s\n", status(answer[RAILCADENCE_NUMBER]));
+    print_fields(answer[RAILCADENCE_NUMBER], field);
+    printf("\n");
+}
+
+int main(void)
+{
+    struct gate shop = { .limit = 3, .period = 1000, .burst = 2 };
+    struct gate slow = { .limit = 60, .period = 3600000, .burst = 12 };
+    respond(&shop, 1000, 7, 1);
+    respond(&shop, 1000, 7, 1);
+    respond(&shop, 1000, 7, 1); /* 334 ms to wait: a second */
+    respond(&shop, 1333, 7, 1); /* 1 ms to wait: a second too */
+    respond(&shop, 1334, 7, 1);
+    respond(&shop, 1334, 7, 3); /* more than the burst */
+    respond(&shop, 1334, 8, 2); /* the only slot is taken */
+    respond(&slow, 0, 7, 12);
+    respond(&slow, 500, 7, 1); /* 59,500 ms to wait: 60 seconds */
+    respond(&slow, 59500, 7, 1); /* 59 seconds later: not yet */
+    respond(&slow, 60500, 7, 1); /* and 60 seconds later */
+    return 0;
+}

@@ -1,0 +1,149 @@
+//! The GCRA engine: one number a slot. [`Gcra`] is a table that owns its columns; the functions work on columns lent as
+//! slices.
+
+use crate::answer::{cleared, written, Answer, Reason};
+use crate::numbers;
+use crate::plan::Plan;
+
+/// A table of the GCRA engine.
+///
+/// It has a slot for each subscriber that owes something, so it needs as many slots as subscribers owe something at the
+/// same time; a slot is taken over when its subscriber owes nothing any more.
+///
+/// The columns can be read, saved, and made a table again:
+///
+/// ```
+/// use railcadence::{Gcra, Plan};
+///
+/// let plan = Plan::new(3, 1000, 2);
+/// let mut table = Gcra::with_slots(2);
+/// table.acquire(&plan, 1000, 7, 2);
+/// assert_eq!(table.ids(), [7, 0]);
+/// assert_eq!(table.tats(), [5000, 0]); // 3 ticks a millisecond, 1000 ticks a unit: 1000 × 3 + 2 × 1000
+///
+/// let (ids, tats) = table.into_columns();
+/// let again = Gcra::from_columns(ids, tats);
+/// assert_eq!(again.peek(&plan, 1000, 7).to_numbers(), [0, 7, 0, 1666, 0]);
+/// ```
+#[derive(Clone, Debug, PartialEq, Eq)]
+pub struct Gcra {
+    ids: Vec<u32>,
+    tats: Vec<u64>,
+}
+
+impl Gcra {
+    /// An empty table. With 0 or more than 4,096 slots every call gets [`Reason::BadTable`].
+    ///
+    /// ```
+    /// use railcadence::{Gcra, Reason};
+    ///
+    /// assert_eq!(Gcra::with_slots(4096).clear(), Ok(()));
+    /// assert_eq!(Gcra::with_slots(4097).clear(), Err(Reason::BadTable));
+    /// ```
+    pub fn with_slots(slots: u16) -> Gcra {
+        let slots = usize::from(slots);
+        Gcra::from_columns(vec![0; slots], vec![0; slots])
+    }
+
+    /// A table of any columns, damaged ones too: slot i is `ids[i]` and `tats[i]`.
+    pub fn from_columns(ids: Vec<u32>, tats: Vec<u64>) -> Gcra {
+        Gcra { ids, tats }
+    }
+
+    /// The columns, `ids` and `tats`.
+    pub fn into_columns(self) -> (Vec<u32>, Vec<u64>) {
+        (self.ids, self.tats)
+    }
+
+    /// The subscriber in each slot; 0 is an empty slot.
+    pub fn ids(&self) -> &[u32] {
+        &self.ids
+    }
+
+    /// For each slot the moment at which nothing is owed any more, in ticks: a millisecond is `limit` ticks.
+    pub fn tats(&self) -> &[u64] {
+        &self.tats
+    }
+
+    /// Decides on a request for `cost` units, and spends them if it is admitted. Nothing else changes the table.
+    ///
+    /// ```
+    /// use railcadence::{Gcra, Outcome, Plan, Reason};
+    ///
+    /// let plan = Plan::new(3, 1000, 2);
+    /// let mut table = Gcra::with_slots(1);
+    /// assert!(table.acquire(&plan, 1000, 7, 2).is_admitted());
+    /// assert_eq!(table.acquire(&plan, 1000, 7, 3).outcome, Outcome::Refused(Reason::CostAboveBurst));
+    /// assert_eq!(table.acquire(&plan, 1000, 8, 1).outcome, Outcome::Refused(Reason::TableFull));
+    /// assert!(table.acquire(&plan, 1667, 8, 1).is_admitted()); // 7 owes nothing any more
+    /// ```
+    pub fn acquire(&mut self, plan: &Plan, moment: u64, subscriber: u32, cost: u32) -> Answer {
+        acquire(
+            plan,
+            &mut self.ids,
+            &mut self.tats,
+            moment,
+            subscriber,
+            cost,
+        )
+    }
+
+    /// Reports what a subscriber has left and when it owes nothing any more. It spends nothing, and never throttles.
+    ///
+    /// ```
+    /// use railcadence::{Gcra, Outcome, Plan};
+    ///
+    /// let unknown = Gcra::with_slots(1).peek(&Plan::new(3, 1000, 2), 1000, 7);
+    /// assert_eq!(unknown.outcome, Outcome::Admitted { left: 2, reset: 1000 });
+    /// ```
+    pub fn peek(&self, plan: &Plan, moment: u64, subscriber: u32) -> Answer {
+        peek(plan, &self.ids, &self.tats, moment, subscriber)
+    }
+
+    /// Makes every slot empty; the only error is [`Reason::BadTable`], and then nothing changes.
+    ///
+    /// ```
+    /// use railcadence::{Gcra, Plan};
+    ///
+    /// let mut table = Gcra::with_slots(1);
+    /// table.acquire(&Plan::new(3, 1000, 2), 1000, 7, 1);
+    /// assert_eq!(table.clear(), Ok(()));
+    /// assert_eq!(table, Gcra::with_slots(1));
+    /// ```
+    pub fn clear(&mut self) -> Result<(), Reason> {
+        clear(&mut self.ids, &mut self.tats)
+    }
+}
+
+/// [`Gcra::acquire`] on lent columns.
+///
+/// ```
+/// use railcadence::{gcra, Plan};
+///
+/// let (mut ids, mut tats) = ([0; 300], [0; 300]);
+/// assert!(gcra::acquire(&Plan::new(3, 1000, 2), &mut ids, &mut tats, 1000, 7, 1).is_admitted());
+/// ```
+pub fn acquire(
+    plan: &Plan,
+    ids: &mut [u32],
+    tats: &mut [u64],
+    moment: u64,
+    subscriber: u32,
+    cost: u32,
+) -> Answer {
+    Answer::from_numbers(written(|out| {
+        numbers::gcra_acquire(plan, ids, tats, moment, subscriber, cost, out)
+    }))
+}
+
+/// [`Gcra::peek`] on lent columns.
+pub fn peek(plan: &Plan, ids: &[u32], tats: &[u64], moment: u64, subscriber: u32) -> Answer {
+    Answer::from_numbers(written(|out| {
+        numbers::gcra_peek(plan, ids, tats, moment, subscriber, out)
+    }))
+}
+
+/// [`Gcra::clear`] on lent columns.
+pub fn clear(ids: &mut [u32], tats: &mut [u64]) -> Result<(), Reason> {
+    cleared(written(|out| numbers::gcra_clear(ids, tats, out)))
+}

@@ -1,0 +1,50 @@
+//! What an HTTP response says of an answer.
+
+use crate::answer::{written, Answer};
+use crate::numbers;
+use crate::plan::Plan;
+
+/// The RateLimit fields and Retry-After. Times are whole seconds, rounded up.
+///
+/// As text they are `RateLimit-Policy: "shop";q=QUOTA;w=WINDOW`, `RateLimit: "shop";r=REMAINING;t=RESET` and, beside status
+/// 429, `Retry-After: RETRY_AFTER`.
+#[derive(Clone, Copy, Debug, PartialEq, Eq, Hash)]
+pub struct HttpFields {
+    /// The burst; 0 for a plan outside its limits.
+    pub quota: u64,
+    /// In which a whole burst is earned.
+    pub window: u64,
+    /// Units left; 0 beside a refusal.
+    pub remaining: u64,
+    /// From the moment to the reset; 0 beside a refusal.
+    pub reset: u64,
+    /// A client that waits so long is admitted, if nothing else is admitted meanwhile and that moment is within its limit;
+    /// a second less is not enough. 0 unless throttled.
+    pub retry_after: u64,
+}
+
+impl Answer {
+    /// What to tell a client of this answer, which an acquire or a peek under the plan gave at the moment.
+    ///
+    /// ```
+    /// use railcadence::{Gcra, HttpFields, Plan};
+    ///
+    /// let plan = Plan::new(60, 3_600_000, 12);
+    /// let mut table = Gcra::with_slots(300);
+    /// table.acquire(&plan, 0, 7, 12);
+    /// let told = table.acquire(&plan, 500, 7, 1).http_fields(&plan, 500); // 59,500 ms to wait
+    /// assert_eq!(told, HttpFields { quota: 12, window: 720, remaining: 0, reset: 720, retry_after: 60 });
+    /// ```
+    pub fn http_fields(&self, plan: &Plan, moment: u64) -> HttpFields {
+        let answer = self.to_numbers();
+        let [quota, window, remaining, reset, retry_after] =
+            written(|out| numbers::http_fields(plan, moment, &answer, out));
+        HttpFields {
+            quota,
+            window,
+            remaining,
+            reset,
+            retry_after,
+        }
+    }
+}

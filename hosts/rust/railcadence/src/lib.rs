@@ -1,0 +1,62 @@
+//! Railcadence: a rate limiter in which every answer and every stored number is proved.
+//!
+//! A [`Plan`] allows `limit` units per `period` milliseconds, and up to `burst` units at once. A table remembers who owes
+//! what. Whoever wants to spend units asks it with [`Gcra::acquire`], and is admitted, told how long to wait, or refused.
+//!
+//! ```
+//! use railcadence::{Gcra, Outcome, Plan};
+//!
+//! let plan = Plan::new(3, 1000, 2);
+//! let mut table = Gcra::with_slots(300);
+//! let mut ask = |moment| table.acquire(&plan, moment, 7, 1).outcome;
+//!
+//! assert_eq!(ask(1000), Outcome::Admitted { left: 1, reset: 1333 });
+//! assert_eq!(ask(1000), Outcome::Admitted { left: 0, reset: 1666 });
+//! assert_eq!(ask(1000), Outcome::Throttled { left: 0, reset: 1666, wait: 334 });
+//! assert_eq!(ask(1334), Outcome::Admitted { left: 0, reset: 2000 });
+//! ```
+//!
+//! # Which engine
+//!
+//! [`Gcra`] stores one number a subscriber, [`TokenBucket`] two. As long as moments never fall from one clear to the next,
+//! both give the same answers. If unsure, take `Gcra`.
+//!
+//! # Moments
+//!
+//! Nothing here reads a clock: a moment is a number of milliseconds from any fixed zero, up to 2^42 − 1. A clock that
+//! never goes back, such as [`std::time::Instant`], suits best.
+//!
+//! # Any values may be passed
+//!
+//! No call panics. Whatever is outside its limits gets a [`Reason`], and then no column is written.
+//!
+//! # Threads
+//!
+//! A table serves one caller at a time, which `&mut self` sees to: share it in a [`std::sync::Mutex`].
+//!
+//! ```
+//! fn sent<T: Send>() {}
+//! sent::<railcadence::Gcra>();
+//! sent::<railcadence::TokenBucket>();
+//! ```
+//!
+//! # Linking
+//!
+//! The build script links the proved archive, `librailcadence_c.a`. It finds it in the folder that the environment variable
+//! `RAILCADENCE_LIB` names.
+
+#![deny(missing_docs)]
+
+mod answer;
+pub mod gcra;
+mod http;
+pub mod numbers;
+mod plan;
+pub mod sys;
+pub mod token_bucket;
+
+pub use answer::{Answer, Outcome, Reason};
+pub use gcra::Gcra;
+pub use http::HttpFields;
+pub use plan::Plan;
+pub use token_bucket::TokenBucket;

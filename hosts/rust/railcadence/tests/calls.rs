@@ -1,0 +1,112 @@
+//! The calls through the wrapper: the worked example's lines, each reason, and any columns.
+
+use railcadence::{Answer, Gcra, Outcome, Plan, Reason, TokenBucket};
+
+const INPUT: &str = include_str!("../../../../examples/worked.tsv");
+const OUTPUT: &str = include_str!("../../../../examples/worked.out");
+const PLAN: Plan = Plan::new(3, 1000, 2);
+
+/// What one engine's acquire answers.
+type Ask<'a> = &'a mut dyn FnMut(&Plan, u64, u32, u32) -> Answer;
+
+/// The output for a text: its first line is the plan, which a table of one slot serves.
+fn transcript(text: &str, ask: Ask) -> String {
+    let mut output = String::from("outcome\tsubscriber\tleft\treset\twait\n");
+    let mut plan = Plan::new(0, 0, 0);
+    for line in text.lines() {
+        let fields: Vec<&str> = line.split('\t').collect();
+        let small = |at: usize| fields[at].parse().expect("a number");
+        if fields[0] == "plan" {
+            plan = Plan::new(small(2), small(3), small(4));
+            continue;
+        }
+        let moment = fields[1].parse().expect("a moment");
+        let numbers = ask(&plan, moment, small(2), small(3)).to_numbers();
+        output += &(numbers.map(|number| number.to_string()).join("\t") + "\n");
+    }
+    output
+}
+
+#[test]
+fn both_engines_answer_the_worked_example() {
+    let (mut gcra, mut bucket) = (Gcra::with_slots(1), TokenBucket::with_slots(1));
+    let lines = transcript(INPUT, &mut |p, m, s, c| gcra.acquire(p, m, s, c));
+    assert_eq!(lines, OUTPUT);
+    let lines = transcript(INPUT, &mut |p, m, s, c| bucket.acquire(p, m, s, c));
+    assert_eq!(lines, OUTPUT);
+}
+
+/// Asks and outcomes on a table of one slot that subscriber 7 has filled up at moment 1000.
+const ASKS: [(Plan, u64, u32, u32, Outcome); 8] = [
+    (
+        Plan::new(0, 1, 1),
+        1 << 42,
+        0,
+        0,
+        Outcome::Refused(Reason::BadPlan),
+    ),
+    (PLAN, 1 << 42, 0, 0, Outcome::Refused(Reason::LateMoment)),
+    (PLAN, 1000, 0, 0, Outcome::Refused(Reason::NoSubscriber)),
+    (PLAN, 1000, 7, 0, Outcome::Refused(Reason::ZeroCost)),
+    (PLAN, 1000, 7, 3, Outcome::Refused(Reason::CostAboveBurst)),
+    (PLAN, 999, 7, 1, Outcome::Refused(Reason::CorruptRecord)),
+    (
+        PLAN,
+        1000,
+        7,
+        1,
+        Outcome::Throttled {
+            left: 0,
+            reset: 1666,
+            wait: 334,
+        },
+    ),
+    (PLAN, 1000, 8, 1, Outcome::Refused(Reason::TableFull)),
+];
+
+#[test]
+fn whatever_is_not_admitted_changes_nothing() {
+    let (mut gcra, mut bucket) = (Gcra::with_slots(1), TokenBucket::with_slots(1));
+    assert!(gcra.acquire(&PLAN, 1000, 7, 2).is_admitted());
+    assert!(bucket.acquire(&PLAN, 1000, 7, 2).is_admitted());
+    let before = (gcra.clone(), bucket.clone());
+    for (plan, moment, subscriber, cost, outcome) in ASKS {
+        let answer = Answer {
+            subscriber,
+            outcome,
+        };
+        assert_eq!(gcra.acquire(&plan, moment, subscriber, cost), answer);
+        assert_eq!(bucket.acquire(&plan, moment, subscriber, cost), answer);
+    }
+    assert_eq!((gcra, bucket), before);
+}
+
+#[test]
+fn columns_of_other_lengths_are_refused() {
+    let refused = Outcome::Refused(Reason::BadTable);
+    let long = usize::from(u16::MAX);
+    for (ids, records) in [(0, 0), (1, 0), (0, 1), (2, 1), (4097, 4097), (long, long)] {
+        let (ids, records) = (vec![7; ids], vec![5; records]);
+        let mut gcra = Gcra::from_columns(ids.clone(), records.clone());
+        assert_eq!(gcra.acquire(&PLAN, 0, 7, 1).outcome, refused);
+        assert_eq!(gcra.peek(&PLAN, 0, 7).outcome, refused);
+        assert_eq!(gcra.clear(), Err(Reason::BadTable));
+        assert_eq!(gcra.into_columns(), (ids.clone(), records.clone()));
+        let lasts = records.clone();
+        let mut bucket = TokenBucket::from_columns(ids.clone(), records.clone(), lasts.clone());
+        assert_eq!(bucket.acquire(&PLAN, 0, 7, 1).outcome, refused);
+        assert_eq!(bucket.peek(&PLAN, 0, 7).outcome, refused);
+        assert_eq!(bucket.clear(), Err(Reason::BadTable));
+        assert_eq!(bucket.into_columns(), (ids, records, lasts));
+    }
+}
+
+#[test]
+fn a_clear_empties_damaged_columns() {
+    let mut gcra = Gcra::from_columns(vec![u32::MAX; 3], vec![u64::MAX; 3]);
+    let mut bucket = TokenBucket::from_columns(vec![1; 3], vec![u64::MAX; 3], vec![u64::MAX; 3]);
+    assert_eq!((gcra.clear(), bucket.clear()), (Ok(()), Ok(())));
+    assert_eq!(gcra, Gcra::with_slots(3));
+    assert_eq!(bucket, TokenBucket::with_slots(3));
+    assert!(gcra.ids().iter().all(|id| *id == 0) && gcra.tats().iter().all(|tat| *tat == 0));
+}
