@@ -6,6 +6,7 @@ pub mod checks;
 pub mod decision;
 #[cfg(test)]
 mod example;
+pub mod http;
 pub mod plan;
 pub mod table;
 pub mod text;

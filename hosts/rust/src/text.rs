@@ -32,18 +32,34 @@ struct Run {
     table: Table<Paced>,
 }
 
-/// The whole output for the whole input. What stands after the last LF is a line without LF, unless it is empty.
+/// What a whole input comes to: the whole output, and the table as the last line left it where a run began.
+pub struct Played {
+    pub output: Vec<u8>,
+    pub table: Option<Table<Paced>>,
+}
+
+/// The whole output for the whole input.
 pub fn transcript(input: &[u8]) -> Vec<u8> {
+    play(input).output
+}
+
+/// What stands after the last LF is a line without LF, unless it is empty.
+pub fn play(input: &[u8]) -> Played {
     let mut output = HEADER.to_vec();
     let mut lines = input.split_inclusive(|&byte| byte == b'\n');
-    let Some(first) = lines.next() else {
-        return output;
+    let begun = lines.next().map(begin);
+    let table = match begun {
+        None => None,
+        Some(Err(number)) => {
+            write_line(&mut output, [number, 0, 0, 0, 0]);
+            None
+        }
+        Some(Ok(mut run)) => {
+            lines.for_each(|line| write_line(&mut output, run.answer(line)));
+            Some(run.table)
+        }
     };
-    match begin(first) {
-        Ok(mut run) => lines.for_each(|line| write_line(&mut output, run.answer(line))),
-        Err(number) => write_line(&mut output, [number, 0, 0, 0, 0]),
-    }
-    output
+    Played { output, table }
 }
 
 /// The run that the first line begins, or the number that ends it there.
@@ -177,6 +193,20 @@ mod tests {
         assert_eq!(answer(b"ask\t0\t0\t0\n"), "4 0 0 0 0\n");
         assert_eq!(answer(b"ask\t0\t7\t2\n"), "0 7 0 666 0\n");
         assert_eq!(answers(""), "");
+    }
+
+    /// 8 takes over the slot of 7, which owes nothing any more; a refused first line begins no run.
+    #[test]
+    fn the_table_that_is_left() {
+        let lines = "plan 2 3 1000 2\nask 1000 7 1\nask 2000 8 2\nask 2000 9 1\n";
+        let left = play(&tabbed(lines)).table.expect("a run");
+        assert_eq!(
+            (left.ids, left.columns),
+            (vec![8, 9], vec![vec![8000, 7000]])
+        );
+        for refused in ["", "plan 0 3 1000 2\n", "plan 2 3 1000 2", "ask 1000 7 1\n"] {
+            assert!(play(&tabbed(refused)).table.is_none(), "{refused:?}");
+        }
     }
 
     /// However long it is; and nothing after the last LF is no line.

@@ -3,18 +3,12 @@
 use model::plan::Plan;
 use std::fmt;
 
-/// The numbers of a plan as the C interface takes them.
-#[derive(Clone, Copy, Debug)]
-pub struct Terms {
-    pub limit: u32,
-    pub period: u32,
-    pub burst: u32,
-}
+/// The numbers of a plan as the archive takes them.
+pub use railcadence::Plan as Terms;
 
-impl Terms {
-    pub fn plan(&self) -> Plan {
-        Plan::new(self.limit, self.period, self.burst)
-    }
+/// The model's plan of these numbers.
+pub fn plan_of(terms: &Terms) -> Plan {
+    Plan::new(terms.limit, terms.period, terms.burst)
 }
 
 #[derive(Clone, Copy, Debug)]

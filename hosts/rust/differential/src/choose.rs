@@ -34,6 +34,15 @@ pub fn bad_terms(rng: &mut Rng) -> Terms {
     terms
 }
 
+/// Either, mostly a good one.
+pub fn terms(rng: &mut Rng) -> Terms {
+    if rng.once_in(12) {
+        bad_terms(rng)
+    } else {
+        good_terms(rng)
+    }
+}
+
 pub fn moment(rng: &mut Rng) -> u64 {
     match rng.below(12) {
         0 => 0,

@@ -1,11 +1,13 @@
 //! One call, made both to the archive and to the model on equal tables, and compared whole: the answer, every column, and
-//! the guards around the columns.
+//! the guards around the columns and around the answer.
 
-use crate::call::{Call, Terms};
+use crate::call::{plan_of, Call, Terms};
 use crate::engine::Engine;
 use crate::lent::Lent;
+use crate::out::Out;
 use crate::spoil::{Done, Fault, Spoil};
 use model::table::{Answer, Table};
+use std::array;
 
 /// How many slots a difference shows, and which it shows in any case.
 const MOST_SHOWN: usize = 64;
@@ -37,7 +39,8 @@ impl<E: Engine> Pair<E> {
     pub fn call(&mut self, call: &Call) -> Result<Answer, Difference> {
         self.before.clone_from(&self.model);
         let expected = self.ask_model(call);
-        let answer = self.ask_archive(call);
+        let out = self.ask_archive(call);
+        let answer: Answer = array::from_fn(|i| u128::from(out[i]));
         if answer != expected {
             return Err(self.difference(call, "the answers differ", expected, answer));
         }
@@ -46,6 +49,10 @@ impl<E: Engine> Pair<E> {
         }
         if !self.real.intact() {
             let what = "the archive wrote outside the columns";
+            return Err(self.difference(call, what, expected, answer));
+        }
+        if !out.intact() {
+            let what = "the archive wrote outside the five numbers";
             return Err(self.difference(call, what, expected, answer));
         }
         Ok(answer)
@@ -58,7 +65,7 @@ impl<E: Engine> Pair<E> {
     }
 
     fn ask_model(&mut self, call: &Call) -> Answer {
-        let plan = self.terms.plan();
+        let plan = plan_of(&self.terms);
         match *call {
             Call::Acquire {
                 moment,
@@ -76,11 +83,11 @@ impl<E: Engine> Pair<E> {
         }
     }
 
-    fn ask_archive(&mut self, call: &Call) -> Answer {
+    fn ask_archive(&mut self, call: &Call) -> Out {
         let mut out = E::call(&self.terms, &mut self.real, call);
         if let Some(fault) = self.fault {
             let mut done = Done {
-                plan: &self.terms.plan(),
+                plan: &plan_of(&self.terms),
                 call,
                 before: &self.before,
                 after: &mut self.real,
@@ -88,7 +95,7 @@ impl<E: Engine> Pair<E> {
             };
             done.spoil(fault);
         }
-        out.map(u128::from)
+        out
     }
 
     fn difference(&self, call: &Call, what: &str, expected: Answer, answer: Answer) -> String {

@@ -1,7 +1,7 @@
 //! The calls of one long run under one plan: a clock that mostly creeps, more subscribers than slots, and costs that keep
 //! slots busy, so that throttling, refilling, takeover of free slots and a full table all occur again and again.
 
-use crate::call::{Call, Terms};
+use crate::call::{plan_of, Call, Terms};
 use crate::choose::{self, LAST};
 use crate::rng::Rng;
 use model::checks::MOST_SLOTS;
@@ -58,7 +58,7 @@ impl Course {
         let terms = terms(rng, size);
         let slots = slots(rng, size);
         let subscribers = slots + rng.from(1, slots + 2);
-        let drain = div_up(terms.plan().full(), terms.plan().limit) as u64;
+        let drain = div_up(plan_of(&terms).full(), plan_of(&terms).limit) as u64;
         let share = drain / subscribers;
         let mut course = Course {
             terms,

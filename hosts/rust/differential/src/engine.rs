@@ -2,12 +2,13 @@
 //! where its record is at a bound.
 
 use crate::call::{Call, Terms};
-use crate::ffi::{self, Out};
 use crate::lent::Lent;
+use crate::out::{answered, Out};
 use crate::rng::Rng;
 use model::decision::{Bucket, Paced, Record};
 use model::plan::{div_up, Plan};
 use model::table::Stored;
+use railcadence::numbers;
 
 /// The engines' names, in the order of `Engine::PLACE`.
 pub const NAMES: [&str; 2] = [Paced::NAME, Bucket::NAME];
@@ -27,25 +28,18 @@ impl Engine for Paced {
     const PLACE: usize = 0;
 
     fn call(terms: &Terms, table: &mut Lent, call: &Call) -> Out {
-        let (ids, tats) = (&mut table.ids, &mut table.columns[0]);
-        match *call {
+        let (ids, tats) = (table.ids.inside_mut(), table.columns[0].inside_mut());
+        answered(|out| match *call {
             Call::Acquire {
                 moment,
                 subscriber,
                 cost,
-            } => ffi::gcra_acquire(
-                terms,
-                ids.inside_mut(),
-                tats.inside_mut(),
-                moment,
-                subscriber,
-                cost,
-            ),
+            } => numbers::gcra_acquire(terms, ids, tats, moment, subscriber, cost, out),
             Call::Peek { moment, subscriber } => {
-                ffi::gcra_peek(terms, ids.inside(), tats.inside(), moment, subscriber)
+                numbers::gcra_peek(terms, ids, tats, moment, subscriber, out)
             }
-            Call::Clear => ffi::gcra_clear(ids.inside_mut(), tats.inside_mut()),
-        }
+            Call::Clear => numbers::gcra_clear(ids, tats, out),
+        })
     }
 
     fn just_free(self, plan: &Plan, moment: u128) -> bool {
@@ -73,35 +67,22 @@ impl Engine for Bucket {
     const PLACE: usize = 1;
 
     fn call(terms: &Terms, table: &mut Lent, call: &Call) -> Out {
-        let ids = &mut table.ids;
+        let ids = table.ids.inside_mut();
         let (levels, lasts) = table.columns.split_at_mut(1);
-        let (levels, lasts) = (&mut levels[0], &mut lasts[0]);
-        match *call {
+        let (levels, lasts) = (levels[0].inside_mut(), lasts[0].inside_mut());
+        answered(|out| match *call {
             Call::Acquire {
                 moment,
                 subscriber,
                 cost,
-            } => ffi::token_bucket_acquire(
-                terms,
-                ids.inside_mut(),
-                levels.inside_mut(),
-                lasts.inside_mut(),
-                moment,
-                subscriber,
-                cost,
+            } => numbers::token_bucket_acquire(
+                terms, ids, levels, lasts, moment, subscriber, cost, out,
             ),
-            Call::Peek { moment, subscriber } => ffi::token_bucket_peek(
-                terms,
-                ids.inside(),
-                levels.inside(),
-                lasts.inside(),
-                moment,
-                subscriber,
-            ),
-            Call::Clear => {
-                ffi::token_bucket_clear(ids.inside_mut(), levels.inside_mut(), lasts.inside_mut())
+            Call::Peek { moment, subscriber } => {
+                numbers::token_bucket_peek(terms, ids, levels, lasts, moment, subscriber, out)
             }
-        }
+            Call::Clear => numbers::token_bucket_clear(ids, levels, lasts, out),
+        })
     }
 
     fn just_free(self, plan: &Plan, moment: u128) -> bool {

@@ -1,7 +1,7 @@
 //! One list of calls through both engines, each with a table of its own, and through the book where the moments never
 //! fall between two clears, which is the premise of document 01's 'The run'. There the three answers must be equal.
 
-use crate::call::{Call, Terms};
+use crate::call::{plan_of, Call, Terms};
 use crate::compare::{circumstances, Difference, Pair};
 use crate::engine::Engine;
 use crate::trial::Trial;
@@ -24,7 +24,7 @@ impl Joint {
             terms,
             gcra: Pair::new(terms, gcra, trial.spoil),
             token_bucket: Pair::new(terms, token_bucket, trial.spoil),
-            book: (!falls).then(|| Book::new(terms.plan(), slots)),
+            book: (!falls).then(|| Book::new(plan_of(&terms), slots)),
         }
     }
 

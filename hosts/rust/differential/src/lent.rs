@@ -1,8 +1,11 @@
-//! A table as a host lends it to the archive: columns of any lengths, each between guards that nobody may write.
+//! What a host lends to the archive: columns of any lengths and five numbers for the answer, each between guards that nobody
+//! may write.
 
 use model::table::{Stored, Table};
+use std::ops::{Deref, DerefMut};
 
-const GUARDS: usize = 2;
+/// How many guards stand on each side: none in the build for a memory checker, which then sees where each block ends.
+const GUARDS: usize = if cfg!(feature = "exact") { 0 } else { 2 };
 
 /// A column between guards. An empty one has an address too.
 #[derive(Clone)]
@@ -12,7 +15,7 @@ pub struct Guarded<T> {
 }
 
 impl<T: Copy + PartialEq> Guarded<T> {
-    fn new(column: &[T], guard: T) -> Guarded<T> {
+    pub fn new(column: &[T], guard: T) -> Guarded<T> {
         let mut cells = vec![guard; column.len() + 2 * GUARDS];
         cells[GUARDS..GUARDS + column.len()].copy_from_slice(column);
         Guarded { cells, guard }
@@ -37,6 +40,25 @@ impl<T: Copy + PartialEq> Guarded<T> {
     pub fn overrun(&mut self, value: T) {
         let end = self.cells.len() - GUARDS;
         self.cells[end] = value;
+    }
+
+    /// Writes the cells before the column.
+    pub fn underrun(&mut self, value: T) {
+        self.cells[..GUARDS].fill(value);
+    }
+}
+
+impl<T: Copy + PartialEq> Deref for Guarded<T> {
+    type Target = [T];
+
+    fn deref(&self) -> &[T] {
+        self.inside()
+    }
+}
+
+impl<T: Copy + PartialEq> DerefMut for Guarded<T> {
+    fn deref_mut(&mut self) -> &mut [T] {
+        self.inside_mut()
     }
 }
 

@@ -1,15 +1,16 @@
 //! Compares the proved archive, through its C interface, with the second implementation: after every call the answer and
-//! every column; and over a run both engines with the book. `options::USAGE` says how to run it.
+//! every column; over a run both engines with the book; and the fields for HTTP. `options::USAGE` says how to run it.
 
 mod call;
 mod choose;
 mod compare;
 mod course;
 mod engine;
-mod ffi;
+mod http;
 mod joint;
 mod lent;
 mod options;
+mod out;
 mod rng;
 mod runs;
 mod single;
@@ -28,8 +29,8 @@ use trial::Trial;
 
 type Run = fn(&mut Trial) -> Result<(), Difference>;
 
-/// Every kind of run; the tallies for the report.
-fn compare_all(options: &Options) -> Result<Vec<Tally>, Difference> {
+/// Every kind of run, and the fields for HTTP; the counts for the report.
+fn compare_all(options: &Options) -> Result<(Vec<Tally>, http::Counts), Difference> {
     let part = |percent| options.calls / 100 * percent;
     let kinds: [(&Kind, u64, Run); 6] = [
         (&SINGLE, part(55), single::run),
@@ -46,7 +47,7 @@ fn compare_all(options: &Options) -> Result<Vec<Tally>, Difference> {
         run(&mut trial)?;
         tallies.extend(trial.tallies);
     }
-    Ok(tallies)
+    Ok((tallies, http::run(options.seed, part(5), spoil)?))
 }
 
 /// How often each number occurred.
@@ -70,12 +71,14 @@ fn say(text: &str) -> Result<(), u8> {
 /// The whole comparison, and with what exit status it fails.
 fn run(options: &Options) -> Result<(), u8> {
     say(&format!("{}\n", options.again()))?;
-    let tallies = compare_all(options).map_err(|difference| {
+    let (tallies, fields) = compare_all(options).map_err(|difference| {
         eprintln!("{difference}The same again: {}", options.again());
         1
     })?;
     say(&report(&tallies))?;
-    let missing: Vec<String> = tallies.iter().flat_map(Tally::missing).collect();
+    say(&fields.line())?;
+    let missing = tallies.iter().flat_map(Tally::missing);
+    let missing: Vec<String> = missing.chain(fields.missing()).collect();
     if missing.is_empty() {
         return Ok(());
     }

@@ -1,6 +1,6 @@
 //! Single calls, each on a damaged table of its own, of either engine in turn.
 
-use crate::call::Call;
+use crate::call::{plan_of, Call};
 use crate::choose::{self, Around};
 use crate::compare::{Difference, Pair};
 use crate::engine::Engine;
@@ -17,16 +17,12 @@ pub fn run(trial: &mut Trial) -> Result<(), Difference> {
 
 fn one<E: Engine>(trial: &mut Trial) -> Result<(), Difference> {
     let rng = &mut trial.rng;
-    let terms = if rng.once_in(12) {
-        choose::bad_terms(rng)
-    } else {
-        choose::good_terms(rng)
-    };
+    let terms = choose::terms(rng);
     let moment = choose::moment(rng);
     let subscriber = choose::subscriber(rng);
     let cost = choose::cost(rng, terms.burst);
     let around = Around {
-        plan: terms.plan(),
+        plan: plan_of(&terms),
         moment: moment as u128,
         subscriber,
         cost: cost as u128,

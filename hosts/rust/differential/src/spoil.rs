@@ -1,9 +1,9 @@
 //! Deliberate faults, to try the comparison itself: what the archive did is changed as one mistake would have changed it.
 
-use crate::call::Call;
+use crate::call::{Call, Terms};
 use crate::engine::Engine;
-use crate::ffi::Out;
 use crate::lent::Lent;
+use crate::out::Out;
 use model::decision::{Bucket, Paced};
 use model::plan::Plan;
 use model::table::Table;
@@ -26,8 +26,15 @@ pub enum Fault {
     PeekLeft,
     PeekWrites,
     Outside,
+    Before,
+    SixNumbers,
     Nonsense,
     Deaf,
+    RetryDown,
+    QuotaLimit,
+    ResetMoment,
+    RefusalTold,
+    RetryEarly,
 }
 
 /// Each fault by its name, and in words.
@@ -48,8 +55,15 @@ unwritten         an admission is not written
 peek-left         peek reports one unit too many left
 peek-writes       a peek writes in the subscriber's slot
 outside           an admission writes beyond the end of the ids
+before            an admission writes before the start of the record's last column
+six-numbers       an answer has a sixth number
 nonsense          acquire reports a reset one too late, and the model does too
 deaf              the book is not told of acquires of cost 1
+retry-down        Retry-After is rounded down
+quota-limit       the quota is the limit
+reset-moment      the seconds until the reset are counted from moment 0
+refusal-told      what is left is told under every number
+retry-early       Retry-After is a second too short, and the model's too
 ";
 
 fn fault(name: &str) -> Option<Fault> {
@@ -70,20 +84,30 @@ fn fault(name: &str) -> Option<Fault> {
         "peek-left" => Fault::PeekLeft,
         "peek-writes" => Fault::PeekWrites,
         "outside" => Fault::Outside,
+        "before" => Fault::Before,
+        "six-numbers" => Fault::SixNumbers,
         "nonsense" => Fault::Nonsense,
         "deaf" => Fault::Deaf,
+        "retry-down" => Fault::RetryDown,
+        "quota-limit" => Fault::QuotaLimit,
+        "reset-moment" => Fault::ResetMoment,
+        "refusal-told" => Fault::RefusalTold,
+        "retry-early" => Fault::RetryEarly,
         _ => return None,
     })
 }
 
 const BOTH: &str = "both";
 const BOOK: &str = "book";
+const HTTP: &str = "http";
 
-/// Where a fault is tried: in one engine, in both at once, or in the book. The refilled level and the last moment are the
+/// Where a fault is tried: in one engine, in both at once, in the book, or in the fields for HTTP. The refilled level and the last moment are the
 /// token bucket's alone; and nonsense of both engines alike shows against the book alone.
 fn places(fault: Fault) -> &'static [&'static str] {
     match fault {
         Fault::Deaf => &[BOOK],
+        Fault::RetryDown | Fault::QuotaLimit | Fault::ResetMoment => &[HTTP],
+        Fault::RefusalTold | Fault::RetryEarly => &[HTTP],
         Fault::DenialRefills | Fault::LastLate => &[Bucket::NAME],
         Fault::Nonsense => &[Paced::NAME, Bucket::NAME, BOTH],
         _ => &[Paced::NAME, Bucket::NAME],
@@ -113,6 +137,23 @@ impl Spoil {
     /// Whether it keeps this call from the book.
     pub fn keeps_from_the_book(self, call: &Call) -> bool {
         self.fault == Fault::Deaf && matches!(call, Call::Acquire { cost: 1, .. })
+    }
+
+    /// Changes the fields for HTTP that the archive reckoned from an answer.
+    pub fn fields(self, terms: &Terms, answer: &[u64; 5], fields: &mut Out) {
+        match (self.fault, answer[0]) {
+            (Fault::RetryDown, 8) => fields[4] = answer[4] / 1000,
+            (Fault::QuotaLimit, _) => fields[0] = terms.limit as u64,
+            (Fault::ResetMoment, 0 | 8) => fields[3] = answer[3].div_ceil(1000),
+            (Fault::RefusalTold, _) => fields[2] = answer[2],
+            (Fault::RetryEarly, _) => fields[4] = fields[4].saturating_sub(1),
+            _ => (),
+        }
+    }
+
+    /// Whether it shortens the model's Retry-After as it does the archive's.
+    pub fn shortens_both(self) -> bool {
+        self.fault == Fault::RetryEarly
     }
 }
 
@@ -160,9 +201,12 @@ impl<E: Engine> Done<'_, E> {
             (Fault::Neighbour, 0) => self.touch(0, self.own() ^ 1),
             (Fault::Unwritten, 0) => *self.after = Lent::new(self.before),
             (Fault::Outside, 0) => self.after.ids.overrun(0),
+            (Fault::Before, 0) => self.after.columns[E::COLUMNS.len() - 1].underrun(0),
+            (Fault::SixNumbers, _) => self.out.overrun(0),
             (Fault::FreeStrict, 0) if self.took_just_free(moment) => {
                 *self.after = Lent::new(self.before);
-                *self.out = [9, self.out[1], 0, 0, 0];
+                let subscriber = self.out[1];
+                self.out.copy_from_slice(&[9, subscriber, 0, 0, 0]);
             }
             _ => (),
         }

@@ -1,9 +1,13 @@
-//! Compares the text program, as a process of its own for every case, with the second implementation's text. `options::USAGE`
-//! says how to run it.
+//! Compares the text program, as a process of its own for every case, and the archive's `railcadence_transcribe` with the second
+//! implementation's text. `options::USAGE` says how to run it.
 
+mod archive;
 mod cases;
 mod compare;
 mod conditions;
+mod lending;
+#[path = "../../differential/src/lent.rs"]
+mod lent;
 mod options;
 mod program;
 #[path = "../../differential/src/rng.rs"]
@@ -44,6 +48,8 @@ struct Comparison {
     program: Program,
     options: Options,
     tally: Tally,
+    /// For what is lent to the archive.
+    rng: Rng,
     spoken: Instant,
 }
 
@@ -51,6 +57,7 @@ impl Comparison {
     fn new(options: Options) -> Comparison {
         Comparison {
             program: Program::new(&options.program),
+            rng: Rng::new(options.seed),
             options,
             tally: Tally::new(),
             spoken: Instant::now(),
@@ -88,8 +95,13 @@ impl Comparison {
     }
 
     fn case(&mut self, kind: &Kind, case: &Case, place: u64, total: u64) -> Result<(), Trouble> {
-        match compare(&self.program, case, self.options.spoil())? {
+        let spoil = self.options.spoil();
+        match compare(&self.program, case, spoil)? {
             Ok(output) => self.tally.count(&case.input, &output),
+            Err(difference) => return Err(self.located(kind, place, case, difference)?),
+        }
+        match archive::compare(&case.input, &mut self.rng, spoil) {
+            Ok(results) => self.tally.count_results(&results),
             Err(difference) => return Err(self.located(kind, place, case, difference)?),
         }
         if self.spoken.elapsed() > EVERY {

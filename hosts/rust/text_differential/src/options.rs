@@ -8,7 +8,8 @@ use std::time::{SystemTime, UNIX_EPOCH};
 
 pub const USAGE: &str = "\
 text_differential [PROGRAM] [--seed N] [--cases N] [--without CONDITION] [--spoil KIND]
-  Runs the text program on many inputs, and compares its output with the second implementation's.
+  Runs the text program on many inputs, and compares its output with the second implementation's; each input is also given to
+  the archive's railcadence_transcribe, and what that writes is compared.
   PROGRAM              the program's path; without it, the environment variable RAILCADENCE_PROGRAM
   --seed N             the same cases again; without it the seed is taken from the time, and printed
   --cases N            how many cases are drawn at random, beside the listed ones (default 4000)

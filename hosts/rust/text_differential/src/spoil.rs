@@ -1,9 +1,12 @@
-//! Deliberate faults, to try the comparison itself: the program under test is given another input, or its output is changed,
-//! as one mistake of its own would have it.
+//! Deliberate faults, to try the comparison itself: the program under test is given another input, or its output or what the
+//! archive left is changed, as one mistake of its own would have it.
 
+mod lending;
+mod program;
 mod reading;
 mod writing;
 
+use crate::lending::Lending;
 use crate::text::lines;
 
 /// The lines of an output, each with its LF.
@@ -23,154 +26,24 @@ pub enum Spoil {
     ReadUnchecked,
     /// It says that the other stream has failed.
     Misnames,
+    /// The archive leaves something else for a text.
+    Lends(fn(&mut Lending, &[u8])),
 }
 
-/// Each fault by its name on the command line, and in words.
-const FAULTS: [(&str, &str, Spoil); 27] = [
-    (
-        "wait-short",
-        "the wait under 8 is one too short",
-        Spoil::Writes(writing::wait_short),
-    ),
-    (
-        "swapped",
-        "left and reset are swapped",
-        Spoil::Writes(writing::swapped),
-    ),
-    (
-        "nobody",
-        "a refusal names subscriber 0",
-        Spoil::Writes(writing::nobody),
-    ),
-    (
-        "late-unread",
-        "a moment above its limit gets 10",
-        Spoil::Writes(writing::late_unread),
-    ),
-    (
-        "ten-dropped",
-        "an unreadable line gets no answer",
-        Spoil::Writes(writing::ten_dropped),
-    ),
-    (
-        "ten-twice",
-        "an unreadable line is answered twice",
-        Spoil::Writes(writing::ten_twice),
-    ),
-    (
-        "ten-named",
-        "an unreadable line is answered with a subscriber",
-        Spoil::Writes(writing::ten_named),
-    ),
-    (
-        "header-missing",
-        "the header is not written",
-        Spoil::Writes(writing::header_missing),
-    ),
-    (
-        "last-lf-missing",
-        "the last line has no LF",
-        Spoil::Writes(writing::last_lf_missing),
-    ),
-    (
-        "last-lost",
-        "the last answer is not written",
-        Spoil::Writes(writing::last_lost),
-    ),
-    (
-        "going-on",
-        "lines after a refused first line are answered",
-        Spoil::Writes(writing::going_on),
-    ),
-    (
-        "first-silent",
-        "a refused first line gets no answer",
-        Spoil::Writes(writing::first_silent),
-    ),
-    (
-        "plan-answered",
-        "a good plan is answered",
-        Spoil::Writes(writing::plan_answered),
-    ),
-    (
-        "zero-taken",
-        "leading zeros are taken",
-        Spoil::Reads(reading::zero_taken),
-    ),
-    (
-        "sign-taken",
-        "a plus sign is taken",
-        Spoil::Reads(reading::sign_taken),
-    ),
-    (
-        "cr-taken",
-        "CR before LF is taken",
-        Spoil::Reads(reading::cr_taken),
-    ),
-    (
-        "bom-taken",
-        "a byte-order mark at the start is taken",
-        Spoil::Reads(reading::bom_taken),
-    ),
-    (
-        "end-taken",
-        "a last line without LF is taken",
-        Spoil::Reads(reading::end_taken),
-    ),
-    (
-        "empty-skipped",
-        "an empty line gets no answer",
-        Spoil::Reads(reading::empty_skipped),
-    ),
-    (
-        "long-cut",
-        "a long line is answered every 128 bytes",
-        Spoil::Reads(reading::long_cut),
-    ),
-    (
-        "plan-ignored",
-        "a second plan line gets no answer",
-        Spoil::Reads(reading::plan_ignored),
-    ),
-    (
-        "wrap-64",
-        "a number wraps at 64 bits",
-        Spoil::Reads(reading::wrap_64),
-    ),
-    (
-        "wrap-32",
-        "a subscriber wraps at 32 bits",
-        Spoil::Reads(reading::wrap_32),
-    ),
-    (
-        "ends-badly",
-        "the output is right and the status is not 0",
-        Spoil::EndsBadly,
-    ),
-    (
-        "write-unchecked",
-        "a failed write goes unnoticed",
-        Spoil::WriteUnchecked,
-    ),
-    (
-        "read-unchecked",
-        "a failed read is taken as the end",
-        Spoil::ReadUnchecked,
-    ),
-    (
-        "misnamed",
-        "the other stream is said to have failed",
-        Spoil::Misnames,
-    ),
-];
+/// A fault: its name on the command line, what it is in words, and the mistake.
+type Fault = (&'static str, &'static str, Spoil);
+
+fn faults() -> impl Iterator<Item = &'static Fault> {
+    program::FAULTS.iter().chain(&lending::FAULTS)
+}
 
 pub fn list() -> String {
-    let line = |(name, words, _): &(&str, &str, Spoil)| format!("{name:16} {words}\n");
-    FAULTS.iter().map(line).collect()
+    let lines = faults().map(|(name, words, _)| format!("{name:16} {words}\n"));
+    lines.collect()
 }
 
 pub fn named(name: &str) -> Result<Spoil, String> {
-    let fault = FAULTS.iter().find(|fault| fault.0 == name);
+    let fault = faults().find(|fault| fault.0 == name);
     fault
         .map(|fault| fault.2)
         .ok_or(format!("no fault is named '{name}'"))
@@ -192,6 +65,13 @@ pub fn output(spoil: Option<Spoil>, input: &[u8], output: Vec<u8>) -> Vec<u8> {
     let mut lines = split(&output);
     change(&mut lines, input);
     lines.concat()
+}
+
+/// Changes what the archive left of what was lent to it.
+pub fn lending(spoil: Option<Spoil>, text: &[u8], lending: &mut Lending) {
+    if let Some(Spoil::Lends(change)) = spoil {
+        change(lending, text);
+    }
 }
 
 fn split(text: &[u8]) -> Lines {

@@ -1,5 +1,5 @@
-//! How often each number was answered, by kind of case, and how many lines of each sort there were; and what of this must
-//! have occurred.
+//! How often each number was answered, by kind of case, how many lines of each sort there were, and how often the archive gave
+//! each result; and what of this must have occurred.
 
 use crate::cases::Kind;
 use crate::text::{begins_a_run, lines};
@@ -42,11 +42,19 @@ const SORTS: [(Sort, &str); 13] = [
 
 const UNREADABLE: usize = 10;
 
+/// Of `railcadence_transcribe`, by their numbers.
+const RESULTS: [&str; 3] = [
+    "text written by the archive",
+    "columns too short for the archive",
+    "output too short for the archive",
+];
+
 pub struct Tally {
     pub cases: u64,
     /// By kind of case, and by number.
     numbers: Vec<(&'static str, &'static [usize], [u64; 11])>,
     sorts: [u64; SORTS.len()],
+    results: [u64; RESULTS.len()],
 }
 
 /// The number that an answer begins with.
@@ -75,6 +83,7 @@ impl Tally {
             cases: 0,
             numbers: Vec::new(),
             sorts: [0; SORTS.len()],
+            results: [0; RESULTS.len()],
         }
     }
 
@@ -95,6 +104,13 @@ impl Tally {
         for (line, number) in lines(input).skip(1).zip(answers) {
             let read = number != UNREADABLE;
             self.add(if read { Ask } else { unreadable_sort(line) }, 1);
+        }
+    }
+
+    /// Counts calls of the archive that were compared.
+    pub fn count_results(&mut self, results: &[u64]) {
+        for &result in results {
+            self.results[result as usize] += 1;
         }
     }
 
@@ -123,6 +139,10 @@ impl Tally {
         for (sort, words) in SORTS {
             text += &format!("{:>10}  {words}\n", self.sorts[sort as usize]);
         }
+        text += "how often the archive gave each result:\n";
+        for (count, words) in self.results.iter().zip(RESULTS) {
+            text += &format!("{count:>10}  {words}\n");
+        }
         text
     }
 
@@ -136,6 +156,9 @@ impl Tally {
         let never = SORTS
             .iter()
             .filter(|(sort, _)| self.sorts[*sort as usize] == 0);
+        missing.extend(never.map(|(_, words)| words.to_string()));
+        let never = self.results.iter().zip(RESULTS);
+        let never = never.filter(|(count, _)| **count == 0);
         missing.extend(never.map(|(_, words)| words.to_string()));
         missing
     }

@@ -1,0 +1,160 @@
+//! What an HTTP response says of an answer, reckoned by the archive and by the model: of any five numbers, and of the answers
+//! to clients, who are admitted if they wait as long as they are told, and not a second earlier.
+
+use crate::call::{plan_of, Call, Terms};
+use crate::choose;
+use crate::compare::{Difference, Pair};
+use crate::engine::Engine;
+use crate::out::answered;
+use crate::rng::Rng;
+use crate::spoil::Spoil;
+use model::decision::{Bucket, Paced};
+use model::http;
+use model::table::Table;
+use railcadence::numbers;
+
+const BAD_PLAN: usize = 0;
+const ADMITTED: usize = 1;
+const THROTTLED: usize = 2;
+const REFUSED: usize = 3;
+const WAITED: usize = 4;
+const NAMES: [&str; 5] = ["bad plan", "admitted", "throttled", "refused", "waited"];
+
+/// How many answers of each kind were compared, and how many clients waited as long as they were told.
+pub struct Counts([u64; 5]);
+
+impl Counts {
+    pub fn line(&self) -> String {
+        let cells = NAMES.iter().zip(self.0);
+        let cells: Vec<String> = cells
+            .map(|(name, count)| format!("{name} {count}"))
+            .collect();
+        format!("http     fields of answers agree: {}\n", cells.join(", "))
+    }
+
+    /// What should have occurred and did not, in words.
+    pub fn missing(&self) -> impl Iterator<Item = String> + '_ {
+        let never = NAMES.iter().zip(self.0).filter(|(_, count)| *count == 0);
+        never.map(|(name, _)| format!("http {name}"))
+    }
+}
+
+struct Trial {
+    rng: Rng,
+    spoil: Option<Spoil>,
+    counts: Counts,
+}
+
+/// Each time any five numbers, and a client of either engine.
+pub fn run(seed: u64, times: u64, spoil: Option<Spoil>) -> Result<Counts, Difference> {
+    let mut trial = Trial {
+        rng: Rng::new(seed),
+        spoil,
+        counts: Counts([0; 5]),
+    };
+    for _ in 0..times {
+        trial.any_numbers()?;
+        trial.client::<Paced>()?;
+        trial.client::<Bucket>()?;
+    }
+    Ok(trial.counts)
+}
+
+impl Trial {
+    fn any_numbers(&mut self) -> Result<(), Difference> {
+        let rng = &mut self.rng;
+        let terms = choose::terms(rng);
+        let moment = choose::moment(rng);
+        let number = match rng.below(8) {
+            0..=2 => 0,
+            3..=5 => 8,
+            6 => rng.below(12),
+            _ => rng.next(),
+        };
+        let (subscriber, left) = (rng.next(), rng.next());
+        let reset = near_a_second(rng, moment);
+        let wait = near_a_second(rng, 0);
+        let answer = [number, subscriber, left, reset, wait];
+        self.fields(&terms, moment, &answer).map(|_| ())
+    }
+
+    /// Somebody spends the whole burst, and a client asks some time later.
+    fn client<E: Engine>(&mut self) -> Result<(), Difference> {
+        let rng = &mut self.rng;
+        let terms = choose::terms(rng);
+        let begin = choose::moment(rng);
+        let moment = begin.saturating_add(rng.of_any_size(1 << 32));
+        let spender = rng.pick(&[1, 1, 1, 2]);
+        let (subscriber, cost) = (choose::subscriber(rng), choose::cost(rng, terms.burst));
+        let mut pair = Pair::new(terms, Table::<E>::cleared(1), None);
+        pair.call(&ask(begin, spender, terms.burst))?;
+        let answer = pair.call(&ask(moment, subscriber, cost))?.map(|n| n as u64);
+        let retry_after = self.fields(&terms, moment, &answer)?[4];
+        let later = moment.saturating_add(retry_after.saturating_mul(1000));
+        if answer[0] != 8 || later > choose::LAST {
+            return Ok(());
+        }
+        self.counts.0[WAITED] += 1;
+        let early = pair.call(&ask(later.saturating_sub(1000), subscriber, cost))?[0];
+        let late = pair.call(&ask(later, subscriber, cost))?[0];
+        if (early, late) == (8, 0) {
+            return Ok(());
+        }
+        let name = E::NAME;
+        Err(format!(
+            "{name}: under {terms:?} the request of subscriber {subscriber} and cost {cost} at {moment} was told to retry \
+             after {retry_after} s; it gets {late} then, and {early} a second earlier\n"
+        ))
+    }
+
+    /// The fields of an answer on which both agree.
+    fn fields(
+        &mut self,
+        terms: &Terms,
+        moment: u64,
+        answer: &[u64; 5],
+    ) -> Result<[u64; 5], Difference> {
+        let plan = plan_of(terms);
+        let mut expected = http::fields(&plan, moment as u128, &answer.map(u128::from));
+        let mut fields = answered(|out| numbers::http_fields(terms, moment, answer, out));
+        if let Some(spoil) = self.spoil {
+            spoil.fields(terms, answer, &mut fields);
+            expected[4] = expected[4].saturating_sub(u128::from(spoil.shortens_both()));
+        }
+        let told: [u64; 5] = std::array::from_fn(|i| fields[i]);
+        if !fields.intact() || told.map(u128::from) != expected {
+            return Err(format!(
+                "the fields differ\n  plan      {terms:?}\n  moment    {moment}\n  answer    {answer:?}\n  \
+                 fields are quota, window, remaining, reset, retry after\n  \
+                 expected  {expected:?}\n  archive   {told:?}, guards intact: {}\n",
+                fields.intact()
+            ));
+        }
+        let kind = match answer[0] {
+            _ if !plan.within_limits() => BAD_PLAN,
+            0 => ADMITTED,
+            8 => THROTTLED,
+            _ => REFUSED,
+        };
+        self.counts.0[kind] += 1;
+        Ok(told)
+    }
+}
+
+fn ask(moment: u64, subscriber: u32, cost: u32) -> Call {
+    Call::Acquire {
+        moment,
+        subscriber,
+        cost,
+    }
+}
+
+/// Whole seconds after a moment, or a millisecond off; or any number.
+fn near_a_second(rng: &mut Rng, moment: u64) -> u64 {
+    let seconds = rng.of_any_size(1 << 40) * 1000;
+    match rng.below(8) {
+        0 => rng.next(),
+        1 => rng.pick(&[0, moment, u64::MAX]),
+        _ => moment.wrapping_add(seconds + rng.below(3) - 1),
+    }
+}

@@ -1,0 +1,126 @@
+//! What is lent to the archive beside a text, and what is due of it: the lengths, the two numbers of the result, and what
+//! columns and output hold before and after.
+
+use crate::lent::{Guarded, Lent};
+use crate::rng::Rng;
+use model::decision::Paced;
+use model::table::Table;
+use model::text::Played;
+use railcadence::numbers;
+
+/// The results, by their numbers.
+pub const WRITTEN: u64 = 0;
+pub const SHORT_TABLE: u64 = 1;
+pub const SHORT_OUTPUT: u64 = 2;
+
+/// The header is so long, and an answer's line no longer.
+const HEADER: usize = 35;
+const LONGEST_ANSWER: usize = 105;
+/// The least of each column.
+const SLOTS: usize = 1024;
+
+/// Around the output and the result.
+const GUARD: u64 = 0xa5a5_a5a5_a5a5_a5a5;
+/// What the result holds before a call, so that a number that is left unwritten shows.
+const UNWRITTEN: u64 = 0x5a5a_5a5a_5a5a_5a5a;
+
+/// The lengths of ids, TATs and output.
+#[derive(Clone, Copy, Debug)]
+pub struct Lengths {
+    ids: usize,
+    tats: usize,
+    out: usize,
+}
+
+/// Lengths for a text, each with the result that is due. Document 01 knows no output or columns that are too short; what
+/// is due there is what the header of the C interface says.
+pub fn all(rng: &mut Rng, text: &[u8]) -> [(Lengths, u64); 8] {
+    let lines = text.iter().filter(|&&byte| byte == b'\n').count();
+    let room = HEADER + LONGEST_ANSWER * (lines + 1);
+    let mut below = |end: usize| rng.below(end as u64) as usize;
+    let lengths = [
+        (SLOTS, SLOTS, room, WRITTEN),
+        (
+            SLOTS + 1 + below(50),
+            SLOTS + 1 + below(50),
+            room + 1 + below(300),
+            WRITTEN,
+        ),
+        (SLOTS, SLOTS, room - 1, SHORT_OUTPUT),
+        (SLOTS + below(50), SLOTS, below(room), SHORT_OUTPUT),
+        (SLOTS - 1, SLOTS, room, SHORT_TABLE),
+        (SLOTS, SLOTS - 1, room, SHORT_TABLE),
+        (below(SLOTS), SLOTS + below(50), room - 1, SHORT_TABLE),
+        (
+            SLOTS + below(50),
+            below(SLOTS),
+            room + below(300),
+            SHORT_TABLE,
+        ),
+    ];
+    lengths.map(|(ids, tats, out, due)| (Lengths { ids, tats, out }, due))
+}
+
+/// What columns and output hold.
+#[derive(Clone)]
+pub struct Held {
+    pub table: Table<Paced>,
+    pub out: Vec<u8>,
+}
+
+impl Held {
+    /// Columns without zeros, and an output without a byte that a text has.
+    pub fn some(rng: &mut Rng, lengths: Lengths) -> Held {
+        let ids = (0..lengths.ids).map(|_| rng.from(1, 9) as u32).collect();
+        let tats = (0..lengths.tats).map(|_| rng.next() | 1).collect();
+        Held {
+            table: Table::new(ids, vec![tats]),
+            out: (0..lengths.out).map(|place| place as u8 | 0x80).collect(),
+        }
+    }
+
+    /// What is due after a text that is written. Where a run began, the table in front is the run's. Of the slots behind
+    /// it document 01 says nothing: they stay, as the contract has it.
+    pub fn after(&self, played: &Played) -> Held {
+        let mut after = self.clone();
+        after.out[..played.output.len()].copy_from_slice(&played.output);
+        if let Some(table) = &played.table {
+            let slots = table.ids.len();
+            after.table.ids[..slots].copy_from_slice(&table.ids);
+            after.table.columns[0][..slots].copy_from_slice(&table.columns[0]);
+        }
+        after
+    }
+}
+
+/// The same as it is lent: columns, output and result between guards.
+pub struct Lending {
+    pub table: Lent,
+    pub out: Guarded<u8>,
+    pub result: Guarded<u64>,
+}
+
+impl Lending {
+    pub fn new(held: &Held) -> Lending {
+        Lending {
+            table: Lent::new(&held.table),
+            out: Guarded::new(&held.out, GUARD as u8),
+            result: Guarded::new(&[UNWRITTEN; 2], GUARD),
+        }
+    }
+
+    pub fn transcribe(&mut self, text: &[u8]) {
+        numbers::transcribe(
+            text,
+            self.table.ids.inside_mut(),
+            self.table.columns[0].inside_mut(),
+            self.out.inside_mut(),
+            self.result.inside_mut().try_into().expect("two numbers"),
+        );
+    }
+
+    /// Nothing outside of what was lent is written.
+    pub fn intact(&self) -> bool {
+        self.table.intact() && self.out.intact() && self.result.intact()
+    }
+}
