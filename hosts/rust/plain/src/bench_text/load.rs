@@ -1,5 +1,7 @@
 //! The texts that are timed: asks for subscribers in turn, under a plan with 1,024 slots.
 
+use crate::draws::Draws;
+
 pub struct Load {
     pub name: &'static str,
     /// How many subscribers ask, and so how many slots are taken.
@@ -23,17 +25,6 @@ pub const LOADS: [Load; 2] = [
 const START: u64 = 1_700_000_000_000;
 /// Odd, so that in as many asks as there are subscribers each of them asks once.
 const STRIDE: u64 = 379;
-
-/// The same numbers in every run, below the end asked for.
-struct Draws(u64);
-
-impl Draws {
-    fn below(&mut self, end: u64) -> u64 {
-        let next = self.0.wrapping_mul(6_364_136_223_846_793_005);
-        self.0 = next.wrapping_add(1_442_695_040_888_963_407);
-        (self.0 >> 33) % end
-    }
-}
 
 impl Load {
     /// So many asks, one a millisecond on average. Costs are such that about as much is asked for as the plan allows; they and

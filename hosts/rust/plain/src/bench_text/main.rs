@@ -1,5 +1,7 @@
 //! Times the text program beside the plain one, on the same texts, and measures its memory. `USAGE` says how to run it.
 
+#[path = "../draws.rs"]
+mod draws;
 mod load;
 mod memory;
 mod time;

@@ -1,0 +1,78 @@
+//! The untimed pass: all contenders must give the same answers and leave the same table.
+
+use crate::call::{Answer, Ask};
+use crate::contender::{Contender, Engine, Table};
+use crate::load::{Load, PLAN, SLOTS};
+
+/// What all agree on.
+pub struct Agreed {
+    /// How many of the asks got each number.
+    pub counts: [u64; 10],
+    pub table: Table,
+}
+
+pub fn compare(engine: &Engine, load: &Load) -> Result<Agreed, String> {
+    let mut tables = [(); 3].map(|()| engine.used_table(SLOTS));
+    clear_all(&engine.contenders, &mut tables)?;
+    for ask in &load.warm_up {
+        let answer = ask_all(&engine.contenders, &mut tables, ask)?;
+        if answer[0] != 0 {
+            return Err(format!(
+                "a table cannot be warmed up: {}",
+                words(ask, &answer)
+            ));
+        }
+    }
+    let mut counts = [0; 10];
+    for ask in &load.asks {
+        let answer = ask_all(&engine.contenders, &mut tables, ask)?;
+        let count = counts.get_mut(answer[0] as usize);
+        *count.ok_or(format!("no such number: {}", words(ask, &answer)))? += 1;
+    }
+    let [table, index, position] = tables;
+    if table != index || table != position {
+        return Err("the tables differ at the end".to_string());
+    }
+    Ok(Agreed { counts, table })
+}
+
+fn clear_all(contenders: &[Contender; 3], tables: &mut [Table; 3]) -> Result<(), String> {
+    for (contender, table) in contenders.iter().zip(tables) {
+        let answer = (contender.clear)(table);
+        let mut records = table.records.iter().chain(&table.lasts);
+        let used = table.ids.iter().any(|&id| id != 0) || records.any(|&word| word != 0);
+        if answer != [0; 5] || used {
+            return Err("a table is not all zeros after its clear".to_string());
+        }
+    }
+    Ok(())
+}
+
+/// The answer that all give.
+fn ask_all(
+    contenders: &[Contender; 3],
+    tables: &mut [Table; 3],
+    ask: &Ask,
+) -> Result<Answer, String> {
+    let mut answers = [[0; 5]; 3];
+    for ((contender, table), answer) in contenders.iter().zip(tables).zip(&mut answers) {
+        *answer = (contender.acquire)(&PLAN, table, ask);
+    }
+    if answers != [answers[0]; 3] {
+        let all = answers.map(|answer| format!("{answer:?}")).join(", ");
+        return Err(format!(
+            "the answers differ: {}; proved, index, position: {all}",
+            asked(ask)
+        ));
+    }
+    Ok(answers[0])
+}
+
+fn asked(ask: &Ask) -> String {
+    let (moment, subscriber, cost) = (ask.moment, ask.subscriber, ask.cost);
+    format!("moment {moment} subscriber {subscriber} cost {cost}")
+}
+
+fn words(ask: &Ask, answer: &Answer) -> String {
+    format!("{}: {answer:?}", asked(ask))
+}

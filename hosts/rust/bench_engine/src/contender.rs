@@ -1,0 +1,100 @@
+//! Who is timed: of each engine the proved one, and the plain one with either search. All are called alike, by a pointer to
+//! the function, over columns of the same kinds.
+
+use crate::archive;
+use crate::call::{Answer, Ask, Plan};
+use crate::plain::search::{Index, Position};
+use crate::plain::{gcra, token_bucket};
+
+/// The ids, and the columns of the record: GCRA's TATs and nothing, or the token bucket's levels and last moments.
+#[derive(Clone, PartialEq, Eq)]
+pub struct Table {
+    pub ids: Vec<u32>,
+    pub records: Vec<u64>,
+    pub lasts: Vec<u64>,
+}
+
+pub struct Contender {
+    pub acquire: fn(&Plan, &mut Table, &Ask) -> Answer,
+    /// Makes every column all zeros, and answers 0.
+    pub clear: fn(&mut Table) -> Answer,
+}
+
+pub struct Engine {
+    pub name: &'static str,
+    has_lasts: bool,
+    /// Proved, index loop, position.
+    pub contenders: [Contender; 3],
+}
+
+impl Engine {
+    /// A table that was used for something else.
+    pub fn used_table(&self, slots: usize) -> Table {
+        Table {
+            ids: vec![7; slots],
+            records: vec![7; slots],
+            lasts: vec![7; if self.has_lasts { slots } else { 0 }],
+        }
+    }
+}
+
+pub const ENGINES: [Engine; 2] = [
+    Engine {
+        name: "gcra",
+        has_lasts: false,
+        contenders: [
+            Contender {
+                acquire: |plan, t, ask| {
+                    archive::gcra_acquire(plan, &mut t.ids, &mut t.records, ask)
+                },
+                clear: |t| archive::gcra_clear(&mut t.ids, &mut t.records),
+            },
+            Contender {
+                acquire: |plan, t, ask| {
+                    gcra::acquire::<Index>(plan, &mut t.ids, &mut t.records, ask)
+                },
+                clear: fill_with_zeros,
+            },
+            Contender {
+                acquire: |plan, t, ask| {
+                    gcra::acquire::<Position>(plan, &mut t.ids, &mut t.records, ask)
+                },
+                clear: fill_with_zeros,
+            },
+        ],
+    },
+    Engine {
+        name: "token bucket",
+        has_lasts: true,
+        contenders: [
+            Contender {
+                acquire: |plan, t, ask| {
+                    let (ids, levels, lasts) = (&mut t.ids, &mut t.records, &mut t.lasts);
+                    archive::token_bucket_acquire(plan, ids, levels, lasts, ask)
+                },
+                clear: |t| archive::token_bucket_clear(&mut t.ids, &mut t.records, &mut t.lasts),
+            },
+            Contender {
+                acquire: |plan, t, ask| {
+                    let (ids, levels, lasts) = (&mut t.ids, &mut t.records, &mut t.lasts);
+                    token_bucket::acquire::<Index>(plan, ids, levels, lasts, ask)
+                },
+                clear: fill_with_zeros,
+            },
+            Contender {
+                acquire: |plan, t, ask| {
+                    let (ids, levels, lasts) = (&mut t.ids, &mut t.records, &mut t.lasts);
+                    token_bucket::acquire::<Position>(plan, ids, levels, lasts, ask)
+                },
+                clear: fill_with_zeros,
+            },
+        ],
+    },
+];
+
+fn fill_with_zeros(table: &mut Table) -> Answer {
+    table.ids.fill(0);
+    table.records.fill(0);
+    table.lasts.fill(0);
+    [0; 5]
+}

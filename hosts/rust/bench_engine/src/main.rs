@@ -1,0 +1,135 @@
+//! Times an acquire of the proved engines, through their C interface, beside plain ones. `USAGE` says how to run it.
+
+mod archive;
+mod call;
+mod clock;
+mod compare;
+mod contender;
+#[path = "../../plain/src/draws.rs"]
+mod draws;
+mod layouts;
+mod load;
+mod plain;
+mod row;
+mod time;
+
+use contender::{Engine, ENGINES};
+use load::{Kind, Load, KINDS, PLAN, SLOTS};
+use row::Row;
+use std::env;
+use std::process::ExitCode;
+
+const USAGE: &str = "\
+bench_engine [--asks N] [--rounds N] [--seed N] [BUILD..]
+  Asks the proved archive and two plain limiters the same, in turns, and compares all answers and the final tables.
+  --asks N    how many asks of each load (default 50000)
+  --rounds N  how often each is timed (default 5, the least)
+  --seed N    draws other asks (default 1)
+  BUILD..     runs these builds of itself in its place, and prints a table of what they report
+Ends with 0, with 1 if answers or tables differ, and with 2 if not called as above.";
+
+struct Options {
+    asks: usize,
+    rounds: usize,
+    seed: u64,
+    builds: Vec<String>,
+}
+
+impl Options {
+    /// The words that give another build the same options.
+    fn words(&self) -> Vec<String> {
+        let (asks, rounds, seed) = (self.asks, self.rounds, self.seed);
+        let text = format!("--asks {asks} --rounds {rounds} --seed {seed}");
+        text.split(' ').map(String::from).collect()
+    }
+}
+
+fn read(mut words: impl Iterator<Item = String>) -> Option<Options> {
+    let mut options = Options {
+        asks: 50_000,
+        rounds: 5,
+        seed: 1,
+        builds: Vec::new(),
+    };
+    while let Some(word) = words.next() {
+        if !word.starts_with("--") {
+            options.builds.push(word);
+            continue;
+        }
+        let number: u64 = words.next()?.parse().ok()?;
+        match word.as_str() {
+            "--asks" => options.asks = number as usize,
+            "--rounds" => options.rounds = number as usize,
+            "--seed" => options.seed = number,
+            _ => return None,
+        }
+    }
+    (options.rounds >= 5 && options.asks > 0).then_some(options)
+}
+
+/// How many asks got each number.
+fn numbers(counts: &[u64; 10]) -> String {
+    let seen = counts.iter().enumerate().filter(|(_, &count)| count > 0);
+    let words: Vec<String> = seen.map(|(n, count)| format!("{count} x {n}")).collect();
+    words.join(", ")
+}
+
+/// Compares and times one load with one engine.
+fn measure(options: &Options, engine: &Engine, kind: &Kind) -> Result<Row, String> {
+    let load = Load::new(kind, options.seed, options.asks);
+    let in_words = |words| format!("{}, {}: {words}", kind.name, engine.name);
+    let agreed = compare::compare(engine, &load).map_err(in_words)?;
+    let medians = time::medians(engine, &load, &agreed, options.rounds).map_err(in_words)?;
+    Ok(Row {
+        load: kind.name.to_string(),
+        engine: engine.name.to_string(),
+        answered: numbers(&agreed.counts),
+        medians,
+    })
+}
+
+fn measure_all(options: &Options) -> Result<(), String> {
+    for (kind, engine) in KINDS
+        .iter()
+        .flat_map(|k| ENGINES.iter().map(move |e| (k, e)))
+    {
+        println!("{}", measure(options, engine, kind)?);
+    }
+    Ok(())
+}
+
+fn run_builds(options: &Options) -> Result<(), String> {
+    println!(
+        "{SLOTS} slots, {} units in {} ms, burst {}; {} asks of each load, seed {}, {} rounds in each of {} builds",
+        PLAN.limit,
+        PLAN.period,
+        PLAN.burst,
+        options.asks,
+        options.seed,
+        options.rounds,
+        options.builds.len()
+    );
+    println!("ns per acquire, and proved divided by plain: the median of the builds (the least to the most)");
+    let rows = layouts::run(&options.builds, &options.words())?;
+    layouts::print(&rows);
+    Ok(())
+}
+
+fn main() -> ExitCode {
+    let Some(options) = read(env::args().skip(1)) else {
+        eprintln!("{USAGE}");
+        return ExitCode::from(2);
+    };
+    let done = if options.builds.is_empty() {
+        measure_all(&options)
+    } else {
+        run_builds(&options)
+    };
+    match done {
+        Ok(()) => ExitCode::SUCCESS,
+        Err(words) => {
+            eprintln!("bench_engine: {words}");
+            ExitCode::from(1)
+        }
+    }
+}

@@ -1,0 +1,46 @@
+//! The timed rounds, in which the contenders take turns.
+
+use crate::clock;
+use crate::compare::Agreed;
+use crate::contender::{Contender, Engine, Table};
+use crate::load::{Load, PLAN, SLOTS};
+use std::hint::black_box;
+
+/// The median nanoseconds per acquire of each contender.
+pub fn medians(
+    engine: &Engine,
+    load: &Load,
+    agreed: &Agreed,
+    rounds: usize,
+) -> Result<[f64; 3], String> {
+    let mut tables = [(); 3].map(|()| engine.used_table(SLOTS));
+    let mut times = [(); 3].map(|()| Vec::new());
+    for turn in 0..3 * rounds {
+        let who = turn % 3;
+        times[who].push(round(&engine.contenders[who], &mut tables[who], load));
+        if tables[who] != agreed.table {
+            return Err("a timed round leaves another table".to_string());
+        }
+    }
+    Ok(times.map(|times| sorted(times)[rounds / 2]))
+}
+
+pub fn sorted(mut times: Vec<f64>) -> Vec<f64> {
+    times.sort_by(f64::total_cmp);
+    times
+}
+
+/// Clears the table and fills it, and times the asks alone.
+fn round(contender: &Contender, table: &mut Table, load: &Load) -> f64 {
+    let plan = black_box(PLAN);
+    (contender.clear)(table);
+    for ask in &load.warm_up {
+        (contender.acquire)(&plan, table, ask);
+    }
+    let acquire = black_box(contender.acquire);
+    let begun = clock::now();
+    for ask in &load.asks {
+        black_box(acquire(&plan, table, ask));
+    }
+    (clock::now() - begun) / load.asks.len() as f64
+}
