@@ -11,7 +11,7 @@ fail() {
 need() { command -v "$1" >/dev/null 2>&1 || fail "the tool '$1' is missing from PATH: $2"; }
 
 need_toolchain() { need rt "it is the Rattle toolchain's command, which proves and builds the crates"; }
-need_c() { need gcc "it builds the example in C, and cargo links with it"; }
+need_c() { need gcc "it builds the examples in C, and cargo links with it"; }
 need_rust() {
     need cargo "it builds the second implementation (no crate from a registry is needed)"
     need_c
@@ -49,7 +49,22 @@ build_rust() {
         fail "the package hosts/rust/$1 does not build"
 }
 
-build_example() {
-    gcc -std=c11 -O2 -Wall -Wextra -Wpedantic -Werror -o "$build/example" "$root/hosts/c/example.c" \
-        "$build/librailcadence_c.a" || fail "hosts/c/example.c does not build"
+# build_c NAME: builds hosts/c/NAME.c with the archive
+build_c() {
+    gcc -std=c11 -O2 -Wall -Wextra -Wpedantic -Werror -o "$build/$1" "$root/hosts/c/$1.c" "$build/librailcadence_c.a" ||
+        fail "hosts/c/$1.c does not build"
+}
+
+# the archive as a shared library, for Python
+build_shared() {
+    gcc -shared -o "$build/librailcadence.so" -Wl,--whole-archive "$build/librailcadence_c.a" -Wl,--no-whole-archive ||
+        fail "no shared library can be made from the archive"
+}
+
+# prints FILE COMMAND...: runs the command, which must end well and print what FILE has
+prints() {
+    expected=$1
+    shift
+    "$@" >"$build/printed" || fail "'$*' ends with status $?"
+    cmp "$build/printed" "$expected" || fail "'$*' does not print $expected"
 }
