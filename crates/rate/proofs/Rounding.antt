@@ -1,8 +1,8 @@
 -- Division rounded up is the least quotient that reaches the dividend.
 -- Assumes nothing.
 use mathlib.Core.Path.{_≡_}
-use Prim.Native.Nat.{ℕ, _+_, _-_, _*_, _/_, _%_, _≤_, _<_}
-use native.Mathlib.Nat.{add-mul, one-mul, div-lt-iff-lt-mul, div-eq-of-lt-le, div-add-mod', mod-lt, mul-le-mul-left}
+use Prim.Native.Nat.{ℕ, _+_, _-_, _*_, _/_, _≤_, _<_}
+use native.Mathlib.Nat.{add-mul, one-mul, div-zero, div-lt-iff-lt-mul, div-eq-of-lt-le, div-add-mod', mod-lt}
 use native.Mathlib.Omega.{arith}
 use Rattle.rate.specs.Grains.{divUp}
 
@@ -35,19 +35,17 @@ divUp-mono a b d pos h =
     let r : b ≤ divUp b d * d = divUp-least b d (divUp b d) pos .0 (omega arith) in
     divUp-least a d (divUp b d) pos .1 (omega arith)
 
--- what quotient and remainder say of it
-module _ (a d : ℕ) (pos : 1 ≤ d) where
-  pub divUp-whole : a % d ≡ 0 → divUp a d ≡ a / d
-  divUp-whole e =
-      let split = div-add-mod' a d in
-      divUp-unique a d (a / d) pos (omega arith) (omega arith)
+pub divUp-by-zero : (a : ℕ) → divUp a 0 ≡ 0
+unfolding divUp
+divUp-by-zero a = div-zero (a + (0 - 1))
 
-  pub divUp-part : (a % d ≡ 0 → ⊥) → divUp a d ≡ a / d + 1
-  divUp-part e =
-      let split = div-add-mod' a d in
-      let more = one-more (a / d) d in
-      let rest = mod-lt a {m = d} pos in
-      divUp-unique a d (a / d + 1) pos (omega arith) (omega arith)
+-- by a single division: nothing of nothing, and otherwise one more than the quotient of one less
+pub divUp-zero : (d : ℕ) → 1 ≤ d → divUp 0 d ≡ 0
+divUp-zero d pos = divUp-unique 0 d 0 pos (omega arith) (omega arith)
 
-  pub quotient-below : (a % d ≡ 0 → ⊥) → a / d < a
-  quotient-below e = omega (arith, div-add-mod' a d, mul-le-mul-left (a / d) pos)
+pub divUp-positive : (a d : ℕ) → 1 ≤ a → 1 ≤ d → divUp a d ≡ (a - 1) / d + 1
+divUp-positive a d some pos =
+    let below = div-add-mod' (a - 1) d in
+    let rest = mod-lt (a - 1) {m = d} pos in
+    let more = one-more ((a - 1) / d) d in
+    divUp-unique a d ((a - 1) / d + 1) pos (omega arith) (omega arith)
