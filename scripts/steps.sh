@@ -21,14 +21,14 @@ need_rust() {
 build=$root/build
 export CARGO_TARGET_DIR=$build/cargo
 
-# the proved archive of the C interface, kept where rt ci does not remove it
+# build_archive CRATE: the proved archive of a crate that C can call, kept where rt ci does not remove it
 export RAILCADENCE_LIB=$build
 build_archive() {
-    (cd "$root" && rt staticlib railcadence_c) >"$build/archive.log" 2>&1 || {
-        tail -n 20 "$build/archive.log" >&2
-        fail "the C interface could not be proved and built: the last lines of build/archive.log are above"
+    (cd "$root" && rt staticlib "$1") >"$build/$1.log" 2>&1 || {
+        tail -n 20 "$build/$1.log" >&2
+        fail "the archive of $1 could not be proved and built: the last lines of build/$1.log are above"
     }
-    cp "$root/target/staticlib/librailcadence_c.a" "$build/"
+    cp "$root/target/staticlib/lib$1.a" "$build/"
 }
 
 # the proved text program, kept where rt ci does not remove it; what has not changed since it was proved is not proved again

@@ -2,16 +2,13 @@
 -- Assumes nothing.
 use borrow.Author.Needs.{needs}
 use mathlib.Core.Path.{sym, ap, _∙_}
-use Prim.Native.Nat.{ℕ, _+_, _/_, _^_, _<_}
+use Prim.Native.Nat.{ℕ, _-_}
 use native.Mathlib.Nat.{div-le-self}
 use native.Mathlib.Omega.{arith}
 use Rattle.rate.specs.Grains.{divUp}
 use Rattle.rate.proofs.Rounding.{divUp-by-zero, divUp-zero, divUp-positive}
 use Rattle.rate.proofs.round.div_up.Statement.{statement}
 use Rattle.rate.proofs.round.div_up.Tie as tie
-
-one-more-fits : (n d : ℕ) → n + 1 < 2 ^ 64 → n / d + 1 < 2 ^ 64
-one-more-fits n d h = omega (arith, div-le-self n d)
 
 returns : tie.Need-returns
 returns c =
@@ -30,7 +27,9 @@ div-result : tie.Need-div-result
 div-result c = search needs
 
 add-result : tie.Need-add-result
-add-result c = record { fits = one-more-fits _ _ (omega arith) }
+add-result c =
+    let args = c .before .before .args in
+    omega (arith, div-le-self (args .a - 1) (args .d))
 
 returns-3 : tie.Need-returns-3
 returns-3 c =
