@@ -16,15 +16,12 @@ const MOST_LIMIT: u64 = 1_000_000;
 const MOST_PERIOD: u64 = 2_678_400_000;
 
 pub const KINDS: [Kind; 4] = [
-    // what a wait is reckoned from: part of the price of up to a thousand units, and the plan's limit
+    // what a wait is reckoned from: the price of up to a thousand units, and the plan's limit
     Kind {
         name: "waits",
-        draw: |draws| {
-            let price = one_to(draws, MOST_PERIOD) * one_to(draws, 1000);
-            Pair {
-                a: price - draws.below(price),
-                d: one_to(draws, MOST_LIMIT),
-            }
+        draw: |draws| Pair {
+            a: one_to(draws, MOST_PERIOD) * one_to(draws, 1000),
+            d: one_to(draws, MOST_LIMIT),
         },
     },
     // both fit 32 bits, for which the compiler takes a shorter division
