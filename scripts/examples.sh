@@ -20,17 +20,17 @@ shows() {
     done
 }
 
-# document 01's lines, tabs shown as spaces
-tr ' ' '\t' <<'END' | cmp -s - examples/worked.out || fail "examples/worked.out is not document 01's output"
+# document 01's lines with the resets of document 02 (Item 2), tabs shown as spaces
+tr ' ' '\t' <<'END' | cmp -s - examples/worked.out || fail "examples/worked.out is not the documents' output"
 outcome subscriber left reset wait
-0 7 1 1333 0
-0 7 0 1666 0
-8 7 0 1666 334
-8 7 0 1666 1
+0 7 1 1334 0
+0 7 0 1667 0
+8 7 0 1667 334
+8 7 0 1667 1
 0 7 0 2000 0
 6 7 0 0 0
 9 8 0 0 0
-0 8 0 2666 0
+0 8 0 2667 0
 9 7 0 0 0
 7 8 0 0 0
 END

@@ -30,7 +30,8 @@ class Plan(NamedTuple):
 
 
 class Answer(NamedTuple):
-    """The outcome's number, the subscriber asked for, units left, reset moment and milliseconds to wait."""
+    """The outcome's number, the subscriber asked for, units left, the first moment at which nothing is owed, and milliseconds to
+    wait."""
 
     number: int
     subscriber: int

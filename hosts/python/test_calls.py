@@ -1,4 +1,4 @@
-"""Tests of railcadence.py: the worked example's lines, numbers that do not fit, and tables of any size."""
+"""Tests of railcadence.py: the worked example's lines, the reset, numbers that do not fit, and tables of any size."""
 
 import unittest
 from pathlib import Path
@@ -23,6 +23,14 @@ class Calls(unittest.TestCase):
             table = engine(slots=int(plan[1]))
             given = [table.acquire(Plan(*map(int, plan[2:])), *map(int, ask[1:])) for ask in asks]
             self.assertEqual(given, expected)
+
+    def test_the_whole_burst_is_there_at_the_reset(self):
+        for engine in ENGINES:
+            table = engine(slots=1)
+            spent = table.acquire(PLAN, 1000, 7, 2)
+            self.assertEqual(spent, Answer(0, 7, 0, 1667, 0))
+            self.assertEqual(table.acquire(PLAN, spent.reset - 1, 7, 2), Answer(8, 7, 1, 1667, 1))
+            self.assertEqual(table.acquire(PLAN, spent.reset, 7, 2).number, ADMITTED)
 
     def test_numbers_that_do_not_fit(self):
         for engine in ENGINES:
@@ -59,13 +67,13 @@ class Calls(unittest.TestCase):
     def test_the_columns(self):
         gcra, bucket = Gcra(slots=2), TokenBucket(slots=2)
         for table in [gcra, bucket]:
-            self.assertEqual(table.acquire(PLAN, 1000, 7, 1), Answer(0, 7, 1, 1333, 0))
-            self.assertEqual(table.peek(PLAN, 1000, 7), Answer(0, 7, 1, 1333, 0))
+            self.assertEqual(table.acquire(PLAN, 1000, 7, 1), Answer(0, 7, 1, 1334, 0))
+            self.assertEqual(table.peek(PLAN, 1000, 7), Answer(0, 7, 1, 1334, 0))
         self.assertEqual([list(gcra.ids), list(gcra.tats)], [[7, 0], [4000, 0]])
         self.assertEqual([list(bucket.ids), list(bucket.levels), list(bucket.lasts)], [[7, 0], [1000, 0], [1000, 0]])
         again = Gcra(slots=2)
         again.ids[:], again.tats[:] = list(gcra.ids), list(gcra.tats)
-        self.assertEqual(again.acquire(PLAN, 1000, 7, 2), Answer(8, 7, 1, 1333, 334))
+        self.assertEqual(again.acquire(PLAN, 1000, 7, 2), Answer(8, 7, 1, 1334, 334))
 
 
 if __name__ == "__main__":

@@ -28,8 +28,8 @@ fields quota window remaining reset wait =
 
 pub worked :
     _≡_ {A = List Fields}
-    (fieldsOf second 1000 (numbers 0 1 1333 0)
-    ∷ fieldsOf second 1000 (numbers 8 0 1666 334)
+    (fieldsOf second 1000 (numbers 0 1 1334 0)
+    ∷ fieldsOf second 1000 (numbers 8 0 1667 334)
     ∷ fieldsOf second 1334 (numbers 6 0 0 0)
     ∷ fieldsOf minute 0 (numbers 8 0 719999 59999)
     ∷ fieldsOf minute 0 (numbers 8 0 720000 60000)

@@ -11,7 +11,7 @@ use Rattle.rate.specs.declared.answer.Reason.{Reason}
 use Rattle.rate.specs.declared.answer.Reason.the-variants.{BadPlan, BadTable, LateMoment, NoSubscriber, ZeroCost, CostAboveBurst, CorruptRecord, TableFull}
 use Rattle.rate.specs.declared.plan.Plan.{Plan}
 use Rattle.rate.specs.Grains.{price}
-use Rattle.rate.specs.Decision.{Verdict, bare, reported, admitted, throttled, retryAfter}
+use Rattle.rate.specs.Decision.{Verdict, bare, reported, admitted, throttled, resetAt, retryAfter}
 use Rattle.rate.specs.Answer.{reasonNumber, verdictOf, answered, numbersOf, clearedNumbers}
 
 pub bad-plan : reasonNumber BadPlan ≡ 1
@@ -74,6 +74,10 @@ bare-number n = refl
 pub reported-number : (p : Plan) (at backlog : ℕ) → reported p at backlog .number ≡ 0
 unfolding reported
 reported-number p at backlog = refl
+
+pub reported-reset : (p : Plan) (at backlog : ℕ) → reported p at backlog .reset ≡ resetAt p at backlog
+unfolding reported
+reported-reset p at backlog = refl
 
 pub admitted-number : (p : Plan) (at backlog cost : ℕ) → admitted p at backlog cost .number ≡ 0
 unfolding admitted

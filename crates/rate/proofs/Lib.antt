@@ -7,7 +7,8 @@ pub mod Products
 pub mod Lawful
 pub mod Cases
 pub mod Judging
+pub mod Wait
+pub mod Reset
 pub mod Fresh
 pub mod Look
-pub mod Wait
 pub mod Life

@@ -28,12 +28,12 @@ fn remaining(plan: Plan, backlog: Ticks) -> u32
     ((capacity.0 - backlog.0) / plan.period as u64) as u32
 }
 
-// Reset: the moment, and the whole milliseconds of the backlog, rounded down.
+// Reset: the first whole millisecond at which the backlog is 0, rounded up.
 fn reset_at(plan: Plan, now: Millis, backlog: Ticks) -> Millis
     requires { ⌜ Owing plan (now .0) (backlog .0) ⌝ }
     ensures { λ r. ⌜ r .0 ≡ resetAt plan (now .0) (backlog .0) ⌝ }
 {
-    let drained = plan.millis_in(backlog);
+    let drained = plan.millis_to_drain(backlog);
     Millis(now.0 + drained.0)
 }
 

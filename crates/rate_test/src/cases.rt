@@ -151,6 +151,28 @@ pub fn bucket_costs() {
     reckon::bucket(p, 1000, bucket_of(2000, 1000), 4_294_967_295);
 }
 
+// 2000 ticks owed at 1000 are gone between 1666 and 1667; a single tick of a million a millisecond counts as one; and a burst of
+// 31 days each is owed for 2,678,400,000,000,000 ms.
+pub fn resets() {
+    let p = plan_of(3, 1000, 2);
+    let fine = plan_of(1_000_000, 1, 1);
+    let slow = plan_of(1, 2_678_400_000, 1_000_000);
+    let last = 4_398_046_511_103;
+    reckon::gcra(p, 1666, 5000, 2);
+    reckon::gcra(p, 1667, 5000, 2);
+    reckon::gcra(fine, 1000, 0, 1);
+    reckon::gcra(slow, last, 0, 1_000_000);
+    reckon::bucket(p, 1666, bucket_of(0, 1000), 2);
+    reckon::bucket(p, 1667, bucket_of(0, 1000), 2);
+    reckon::bucket(fine, 1000, bucket_of(1, 1000), 1);
+    reckon::bucket(
+        slow,
+        last,
+        bucket_of(2_678_400_000_000_000, last),
+        1_000_000,
+    );
+}
+
 pub fn gcra_extremes() {
     let largest = plan_of(1_000_000, 2_678_400_000, 1_000_000);
     let least = plan_of(1, 1, 1);

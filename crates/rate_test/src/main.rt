@@ -23,6 +23,8 @@ fn main() {
     cases::buckets();
     line::title(b"token bucket: the cost");
     cases::bucket_costs();
+    line::title(b"the whole burst at the reset and before it, the shortest and the longest reset");
+    cases::resets();
     line::title(b"gcra: plan and moment at their limits and beyond");
     cases::gcra_extremes();
     line::title(b"gcra: products of about 64 bits");

@@ -1,4 +1,5 @@
--- Document 01, 'The tabbed text': its ten asks with their answers, cost B on a cleared table, and subscriber 0 with cost 0.
+-- Document 01, 'The tabbed text': its ten asks with their answers, cost B on a cleared table, and subscriber 0 with cost 0;
+-- resets are those of document 02 (Item 2).
 use Prim.Native.Nat.{ℕ}
 use mathlib.Core.List.{List, [], _∷_, _++_}
 use Rattle.rate.specs.declared.answer.Numbers.{Numbers}
@@ -36,21 +37,21 @@ line number subscriber left reset wait =
 
 unfoldable pub answers : List Numbers
 answers =
-    line 0 7 1 1333 0
-    ∷ line 0 7 0 1666 0
-    ∷ line 8 7 0 1666 334
-    ∷ line 8 7 0 1666 1
+    line 0 7 1 1334 0
+    ∷ line 0 7 0 1667 0
+    ∷ line 8 7 0 1667 334
+    ∷ line 8 7 0 1667 1
     ∷ line 0 7 0 2000 0
     ∷ line 6 7 0 0 0
     ∷ line 9 8 0 0 0
-    ∷ line 0 8 0 2666 0
+    ∷ line 0 8 0 2667 0
     ∷ line 9 7 0 0 0
     ∷ line 7 8 0 0 0
     ∷ []
 
--- cost B on a cleared table is admitted with 0 left: P×B / N = 2000 / 3 = 666 ms later all is there again
+-- cost B on a cleared table is admitted with 0 left: P×B / N = 2000 / 3 = 666.7, so 667 ms later all is there again
 unfoldable pub burstAnswer : Numbers
-burstAnswer = line 0 7 0 1666 0
+burstAnswer = line 0 7 0 1667 0
 
 -- subscriber 0 with cost 0 gives 4
 unfoldable pub nobodyAnswer : Numbers

@@ -106,9 +106,9 @@ mod tests {
         for (moment, subscriber, cost, expected) in &LINES[..9] {
             assert_eq!(book.acquire(*moment, *subscriber, *cost), *expected);
         }
-        assert_eq!(book.peek(2000, 8), [0, 8, 0, 2666, 0]);
+        assert_eq!(book.peek(2000, 8), [0, 8, 0, 2667, 0]);
         assert_eq!(book.clear(), [0; 5]);
-        assert_eq!(book.acquire(0, 7, 2), [0, 7, 0, 666, 0]);
+        assert_eq!(book.acquire(0, 7, 2), [0, 7, 0, 667, 0]);
     }
 
     fn number(slots: usize, plan: Plan, moment: u64, subscriber: u32, cost: u32) -> u128 {
@@ -124,7 +124,7 @@ mod tests {
         assert_eq!(number(1, plan(), 4_398_046_511_104, 7, 1), 3);
         assert_eq!(number(4097, plan(), 0, 7, 1), 2);
         assert_eq!(number(1, plan(), 0, 0, 0), 4);
-        assert_eq!(Book::new(plan(), 1).acquire(0, 7, 2), [0, 7, 0, 666, 0]);
+        assert_eq!(Book::new(plan(), 1).acquire(0, 7, 2), [0, 7, 0, 667, 0]);
         assert_eq!(Book::new(plan(), 1).peek(1000, 7), [0, 7, 2, 1000, 0]);
     }
 
@@ -150,7 +150,7 @@ mod tests {
     fn a_rest_fills_no_further_than_the_burst() {
         let mut book = Book::new(plan(), 1);
         assert_eq!(book.acquire(0, 7, 2)[0], 0);
-        assert_eq!(book.acquire(1_000_000, 7, 2), [0, 7, 0, 1_000_666, 0]);
+        assert_eq!(book.acquire(1_000_000, 7, 2), [0, 7, 0, 1_000_667, 0]);
         assert_eq!(book.acquire(1_000_000, 7, 1)[0], 8);
     }
 }

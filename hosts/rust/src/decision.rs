@@ -112,13 +112,14 @@ impl Record for Bucket {
     }
 }
 
-/// Number 0 with left and reset from the debt after the call. The book's debt can exceed a full bucket where the clock
-/// falls; document 01 says nothing of that case, and left is then 0.
+/// Number 0 with left and reset from the debt after the call; the reset is the first whole millisecond at which it is 0
+/// (document 02, Item 2). The book's debt can exceed a full bucket where the clock falls; document 01 says nothing of that
+/// case, and left is then 0.
 pub fn settled(plan: &Plan, moment: u128, debt: u128) -> Verdict {
     Verdict {
         number: 0,
         left: plan.full().saturating_sub(debt) / plan.period,
-        reset: moment + debt / plan.limit,
+        reset: moment + div_up(debt, plan.limit),
         wait: 0,
     }
 }
@@ -195,15 +196,15 @@ mod tests {
 
     /// The lines of document 01's example that concern one record: moment, cost, and number, left, reset, wait.
     const SHOP_7: [(u128, u128, [u128; 4]); 6] = [
-        (1000, 1, [0, 1, 1333, 0]),
-        (1000, 1, [0, 0, 1666, 0]),
-        (1000, 1, [8, 0, 1666, 334]),
-        (1333, 1, [8, 0, 1666, 1]),
+        (1000, 1, [0, 1, 1334, 0]),
+        (1000, 1, [0, 0, 1667, 0]),
+        (1000, 1, [8, 0, 1667, 334]),
+        (1333, 1, [8, 0, 1667, 1]),
         (1334, 1, [0, 0, 2000, 0]),
         (1334, 3, [6, 0, 0, 0]),
     ];
     const SHOP_8: [(u128, u128, [u128; 4]); 2] =
-        [(2000, 2, [0, 0, 2666, 0]), (1999, 1, [7, 0, 0, 0])];
+        [(2000, 2, [0, 0, 2667, 0]), (1999, 1, [7, 0, 0, 0])];
 
     fn play<R: Record>(fresh: R, lines: &[(u128, u128, [u128; 4])]) {
         let mut record = fresh;

@@ -44,8 +44,8 @@ mod tests {
     fn of_the_worked_example() {
         let plan = Plan::new(3, 1000, 2);
         let told = |moment, answer| fields(&plan, moment, &answer);
-        assert_eq!(told(1000, [0, 7, 1, 1333, 0]), [2, 1, 1, 1, 0]);
-        assert_eq!(told(1000, [8, 7, 0, 1666, 334]), [2, 1, 0, 1, 1]);
+        assert_eq!(told(1000, [0, 7, 1, 1334, 0]), [2, 1, 1, 1, 0]);
+        assert_eq!(told(1000, [8, 7, 0, 1667, 334]), [2, 1, 0, 1, 1]);
         assert_eq!(told(1334, [6, 7, 0, 0, 0]), [2, 1, 0, 0, 0]);
         assert_eq!(told(1334, [9, 8, 0, 0, 0]), [2, 1, 0, 0, 0]);
     }

@@ -202,7 +202,7 @@ mod tests {
         assert_eq!(number::<R>(0, plan(), 0, 7, 1), 2);
         assert_eq!(number::<R>(1, plan(), 0, 0, 0), 4);
         let whole_burst = Table::<R>::cleared(1).acquire(&plan(), 1000, 7, 2);
-        assert_eq!(whole_burst, [0, 7, 0, 1666, 0]);
+        assert_eq!(whole_burst, [0, 7, 0, 1667, 0]);
         let unknown = Table::<R>::cleared(1).peek(&plan(), 1000, 7);
         assert_eq!(unknown, [0, 7, 2, 1000, 0]);
     }
@@ -234,7 +234,7 @@ mod tests {
             assert_eq!(table.acquire(&plan(), 333 * k, 7, 1)[0], 0, "ask {k}");
         }
         let denied = table.acquire(&plan(), 333 * 1001, 7, 1);
-        assert_eq!(denied, [8, 7, 0, 333 * 1001 + 333, 1]);
+        assert_eq!(denied, [8, 7, 0, 333 * 1001 + 334, 1]);
     }
 
     #[test]
@@ -247,7 +247,7 @@ mod tests {
     #[test]
     fn an_impossible_record_is_no_wait() {
         for (tat, asked, seen) in [
-            (5000, [8, 7, 0, 1666, 334], [0, 7, 0, 1666, 0]),
+            (5000, [8, 7, 0, 1667, 334], [0, 7, 0, 1667, 0]),
             (5001, [7, 7, 0, 0, 0], [7, 7, 0, 0, 0]),
             (u64::MAX, [7, 7, 0, 0, 0], [7, 7, 0, 0, 0]),
         ] {
@@ -269,11 +269,11 @@ mod tests {
     fn slots_are_taken_from_the_lowest() {
         let tats = vec![u64::MAX, 3001, 3000, 3000];
         let mut table = Table::<Paced>::new(vec![0, 7, 7, 5], vec![tats]);
-        assert_eq!(table.acquire(&plan(), 1000, 7, 1), [0, 7, 0, 1333, 0]);
+        assert_eq!(table.acquire(&plan(), 1000, 7, 1), [0, 7, 0, 1334, 0]);
         assert_eq!(table.columns[0], [u64::MAX, 4001, 3000, 3000]);
-        assert_eq!(table.acquire(&plan(), 1000, 8, 1), [0, 8, 1, 1333, 0]);
+        assert_eq!(table.acquire(&plan(), 1000, 8, 1), [0, 8, 1, 1334, 0]);
         assert_eq!(table.ids, [8, 7, 7, 5]);
-        assert_eq!(table.acquire(&plan(), 1000, 9, 2), [0, 9, 0, 1666, 0]);
+        assert_eq!(table.acquire(&plan(), 1000, 9, 2), [0, 9, 0, 1667, 0]);
         assert_eq!(table.ids, [8, 7, 9, 5]);
         assert_eq!(table.columns[0], [4000, 4001, 5000, 3000]);
     }

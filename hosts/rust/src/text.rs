@@ -172,8 +172,8 @@ mod tests {
             ask 1000 7 1\nask 1000 7 1\nask 1000 7 1\nask 1333 7 1\nask 1334 7 1\n\
             ask 1334 7 3\nask 1334 8 2\nask 2000 8 2\nask 2000 7 1\nask 1999 8 1\n";
         let output = "outcome subscriber left reset wait\n\
-            0 7 1 1333 0\n0 7 0 1666 0\n8 7 0 1666 334\n8 7 0 1666 1\n0 7 0 2000 0\n\
-            6 7 0 0 0\n9 8 0 0 0\n0 8 0 2666 0\n9 7 0 0 0\n7 8 0 0 0\n";
+            0 7 1 1334 0\n0 7 0 1667 0\n8 7 0 1667 334\n8 7 0 1667 1\n0 7 0 2000 0\n\
+            6 7 0 0 0\n9 8 0 0 0\n0 8 0 2667 0\n9 7 0 0 0\n7 8 0 0 0\n";
         assert_eq!(transcript(&tabbed(input)), tabbed(output));
         let lines = LINES.map(|(_, _, _, answer)| answer.map(|n| n.to_string()).join(" ") + "\n");
         assert_eq!(answers(input), lines.concat());
@@ -185,13 +185,13 @@ mod tests {
         assert_eq!(answers("plan 1 1000001 1000 2\n"), "1 0 0 0 0\n");
         assert_eq!(answers("plan 1 3 1000 0\n"), "1 0 0 0 0\n");
         let last = "ask\t4398046511103\t7\t1\n";
-        assert_eq!(answer(last.as_bytes()), "0 7 1 4398046511436 0\n");
+        assert_eq!(answer(last.as_bytes()), "0 7 1 4398046511437 0\n");
         assert_eq!(answer(b"ask\t4398046511104\t7\t1\n"), "3 7 0 0 0\n");
         assert_eq!(answers("plan 4097 3 1000 2\n"), "2 0 0 0 0\n");
         assert_eq!(answers("plan 1025 3 1000 2\n"), "2 0 0 0 0\n");
         assert_eq!(answers("plan 1024 3 1000 2\n"), "");
         assert_eq!(answer(b"ask\t0\t0\t0\n"), "4 0 0 0 0\n");
-        assert_eq!(answer(b"ask\t0\t7\t2\n"), "0 7 0 666 0\n");
+        assert_eq!(answer(b"ask\t0\t7\t2\n"), "0 7 0 667 0\n");
         assert_eq!(answers(""), "");
     }
 
@@ -218,7 +218,7 @@ mod tests {
             line.push(b'\n');
             assert_eq!(answer(&line), TEN, "{length}");
             line.extend_from_slice(b"ask\t0\t7\t2\n");
-            assert_eq!(answer(&line), format!("{TEN}0 7 0 666 0\n"), "{length}");
+            assert_eq!(answer(&line), format!("{TEN}0 7 0 667 0\n"), "{length}");
         }
         assert_eq!(answer(b"ask\t0\t7\t2"), TEN);
     }
@@ -262,7 +262,7 @@ mod tests {
             assert_eq!(answer(line.as_bytes()), TEN, "{line:?}");
         }
         assert_eq!(answer(b"ask\t1\t7\t\xff\n"), TEN);
-        assert_eq!(answer(b"ask\t0\t7\t1\n"), "0 7 1 333 0\n");
+        assert_eq!(answer(b"ask\t0\t7\t1\n"), "0 7 1 334 0\n");
     }
 
     /// A number that is wider cannot be read; one that is only too large gets its check's number.
@@ -274,7 +274,7 @@ mod tests {
             answer(b"ask\t340282366920938463463374607431768211457\t7\t1\n"),
             TEN
         );
-        assert_eq!(answer(b"ask\t1\t4294967295\t1\n"), "0 4294967295 1 334 0\n");
+        assert_eq!(answer(b"ask\t1\t4294967295\t1\n"), "0 4294967295 1 335 0\n");
         assert_eq!(answer(b"ask\t1\t4294967296\t1\n"), TEN);
         assert_eq!(answer(b"ask\t1\t7\t4294967295\n"), "6 7 0 0 0\n");
         assert_eq!(answer(b"ask\t1\t7\t4294967296\n"), TEN);
@@ -317,7 +317,7 @@ mod tests {
             let input = format!("plan 1 3 1000 2\nask 0 7 2\n{again}ask 0 7 1\n");
             assert_eq!(
                 answers(&input),
-                format!("0 7 0 666 0\n{TEN}8 7 0 666 334\n")
+                format!("0 7 0 667 0\n{TEN}8 7 0 667 334\n")
             );
         }
     }

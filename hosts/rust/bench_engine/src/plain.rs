@@ -61,6 +61,6 @@ fn throttled(plan: &Plan, ask: &Ask, debt: u64) -> Answer {
 
 fn answer(number: u64, plan: &Plan, ask: &Ask, debt: u64, wait: u64) -> Answer {
     let left = (full(plan) - debt) / plan.period as u64;
-    let reset = ask.moment + debt / plan.limit as u64;
+    let reset = ask.moment + debt.div_ceil(plan.limit as u64);
     [number, ask.subscriber as u64, left, reset, wait]
 }

@@ -15,7 +15,7 @@ const THROTTLED: u64 = 8;
 /// let answer = table.acquire(&Plan::new(3, 1000, 2), 1000, 7, 1);
 /// assert_eq!(answer.subscriber, 7);
 /// assert!(answer.is_admitted());
-/// assert_eq!(answer.outcome.to_string(), "admitted: 1 left, nothing owed after moment 1333");
+/// assert_eq!(answer.outcome.to_string(), "admitted: 1 left, nothing owed from moment 1334 on");
 /// ```
 #[derive(Clone, Copy, Debug, PartialEq, Eq, Hash)]
 pub struct Answer {
@@ -32,14 +32,16 @@ pub enum Outcome {
     Admitted {
         /// Whole units left after the call.
         left: u64,
-        /// The moment at which nothing is owed any more, rounded down.
+        /// The first moment at which nothing is owed any more. A subscriber that has a slot gets its whole burst from then on,
+        /// and not before, if nothing else is admitted meanwhile and that moment is within its limit.
         reset: u64,
     },
     /// Not now. Nothing is spent.
     Throttled {
         /// Whole units left.
         left: u64,
-        /// The moment at which nothing is owed any more, rounded down.
+        /// The first moment at which nothing is owed any more. A subscriber that has a slot gets its whole burst from then on,
+        /// and not before, if nothing else is admitted meanwhile and that moment is within its limit.
         reset: u64,
         /// The least number of milliseconds after which the same request is admitted, if nothing else is admitted
         /// meanwhile and that moment is within its limit.
@@ -167,7 +169,7 @@ impl Display for Outcome {
             Outcome::Admitted { left, reset } => {
                 write!(
                     f,
-                    "admitted: {left} left, nothing owed after moment {reset}"
+                    "admitted: {left} left, nothing owed from moment {reset} on"
                 )
             }
             Outcome::Throttled { wait, .. } => write!(f, "throttled: try again in {wait} ms"),

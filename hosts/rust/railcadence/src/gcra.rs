@@ -23,7 +23,7 @@ use crate::plan::Plan;
 ///
 /// let (ids, tats) = table.into_columns();
 /// let again = Gcra::from_columns(ids, tats);
-/// assert_eq!(again.peek(&plan, 1000, 7).to_numbers(), [0, 7, 0, 1666, 0]);
+/// assert_eq!(again.peek(&plan, 1000, 7).to_numbers(), [0, 7, 0, 1667, 0]);
 /// ```
 #[derive(Clone, Debug, PartialEq, Eq)]
 pub struct Gcra {

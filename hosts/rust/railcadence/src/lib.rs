@@ -10,9 +10,9 @@
 //! let mut table = Gcra::with_slots(300);
 //! let mut ask = |moment| table.acquire(&plan, moment, 7, 1).outcome;
 //!
-//! assert_eq!(ask(1000), Outcome::Admitted { left: 1, reset: 1333 });
-//! assert_eq!(ask(1000), Outcome::Admitted { left: 0, reset: 1666 });
-//! assert_eq!(ask(1000), Outcome::Throttled { left: 0, reset: 1666, wait: 334 });
+//! assert_eq!(ask(1000), Outcome::Admitted { left: 1, reset: 1334 });
+//! assert_eq!(ask(1000), Outcome::Admitted { left: 0, reset: 1667 });
+//! assert_eq!(ask(1000), Outcome::Throttled { left: 0, reset: 1667, wait: 334 });
 //! assert_eq!(ask(1334), Outcome::Admitted { left: 0, reset: 2000 });
 //! ```
 //!

@@ -6,7 +6,7 @@
 //!
 //! let (mut ids, mut tats, mut out) = ([0; 300], [0; 300], [0; 5]);
 //! numbers::gcra_acquire(&Plan::new(3, 1000, 2), &mut ids, &mut tats, 1000, 7, 1, &mut out);
-//! assert_eq!(out, [0, 7, 1, 1333, 0]);
+//! assert_eq!(out, [0, 7, 1, 1334, 0]);
 //! ```
 
 use crate::plan::Plan;

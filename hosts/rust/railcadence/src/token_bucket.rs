@@ -19,7 +19,7 @@ use crate::plan::Plan;
 ///
 /// let (ids, levels, lasts) = table.into_columns();
 /// let again = TokenBucket::from_columns(ids, levels, lasts);
-/// assert_eq!(again.peek(&plan, 1000, 7).to_numbers(), [0, 7, 1, 1333, 0]);
+/// assert_eq!(again.peek(&plan, 1000, 7).to_numbers(), [0, 7, 1, 1334, 0]);
 /// ```
 #[derive(Clone, Debug, PartialEq, Eq)]
 pub struct TokenBucket {

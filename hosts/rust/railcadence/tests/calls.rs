@@ -1,4 +1,4 @@
-//! The calls through the wrapper: the worked example's lines, each reason, and any columns.
+//! The calls through the wrapper: the worked example's lines, each reason, the reset, and any columns.
 
 use railcadence::{Answer, Gcra, Outcome, Plan, Reason, TokenBucket};
 
@@ -57,7 +57,7 @@ const ASKS: [(Plan, u64, u32, u32, Outcome); 8] = [
         1,
         Outcome::Throttled {
             left: 0,
-            reset: 1666,
+            reset: 1667,
             wait: 334,
         },
     ),
@@ -79,6 +79,25 @@ fn whatever_is_not_admitted_changes_nothing() {
         assert_eq!(bucket.acquire(&plan, moment, subscriber, cost), answer);
     }
     assert_eq!((gcra, bucket), before);
+}
+
+/// Both engines owe 2000 ticks at 1000, which drain by 3 a millisecond: 2 are left at 1666, and none at 1667.
+#[test]
+fn the_whole_burst_is_there_at_the_reset() {
+    let (mut gcra, mut bucket) = (Gcra::with_slots(1), TokenBucket::with_slots(1));
+    let asks: [Ask; 2] = [
+        &mut |p, m, s, c| gcra.acquire(p, m, s, c),
+        &mut |p, m, s, c| bucket.acquire(p, m, s, c),
+    ];
+    for ask in asks {
+        let (left, reset) = (0, 1667);
+        let spent = ask(&PLAN, 1000, 7, 2).outcome;
+        assert_eq!(spent, Outcome::Admitted { left, reset });
+        let (left, wait) = (1, 1);
+        let early = ask(&PLAN, 1666, 7, 2).outcome;
+        assert_eq!(early, Outcome::Throttled { left, reset, wait });
+        assert!(ask(&PLAN, 1667, 7, 2).is_admitted());
+    }
 }
 
 #[test]

@@ -73,7 +73,8 @@ impl Gate {
 
     fn answer(&self, number: u64, subscriber: u64, moment: u64, debt: u64, wait: u64) -> Answer {
         let left = (self.period * self.burst - debt) / self.period;
-        [number, subscriber, left, moment + debt / self.limit, wait]
+        let reset = moment + debt.div_ceil(self.limit);
+        [number, subscriber, left, reset, wait]
     }
 
     /// The subscriber's own slot, or else the lowest that is free.

@@ -1,0 +1,63 @@
+-- The reset is the first moment at which nothing is owed, for any engine with the backlog law: it is the end of the wait for a
+-- whole burst, which is admitted exactly where nothing is owed, and that wait is the least.
+-- Assumes nothing.
+use mathlib.Core.Path.{_≡_, sym, ap, _∙_}
+use mathlib.Core.Bool.{true}
+use Prim.Native.Nat.{ℕ, zero, suc, _+_, _-_, _≤_, _<_}
+use native.Mathlib.Omega.{arith}
+use lib.Dec.{leb, eqb}
+use borrow.Author.Tests.{le-leb, lt-leb, ne-eqb}
+use Rattle.rate.specs.declared.plan.Plan.{Plan}
+use Rattle.rate.specs.Grains.{price, capacity, divUp}
+use Rattle.rate.specs.Decision.{admissible, resetAt, retryAfter}
+use Rattle.rate.specs.Engine.{Engine}
+use Rattle.rate.proofs.Lawful.{Lawful}
+use Rattle.rate.proofs.Limits.{capacity-is-price}
+use Rattle.rate.proofs.Rounding.{divUp-zero}
+use Rattle.rate.proofs.Tests.{leb-same}
+use Rattle.rate.proofs.Wait.{least-wait}
+
+-- a whole burst is admitted exactly where nothing is owed
+pub burst-iff-nothing-owed : (p : Plan) (backlog : ℕ) → admissible p backlog (p .burst) ≡ eqb backlog 0
+unfolding admissible
+burst-iff-nothing-owed p zero =
+    let fits : 0 + price p (p .burst) ≤ capacity p = omega (arith, capacity-is-price p) in
+    le-leb (0 + price p (p .burst)) (capacity p) fits
+burst-iff-nothing-owed p (suc b) =
+    let beyond : capacity p < suc b + price p (p .burst) = omega (arith, capacity-is-price p) in
+    lt-leb (suc b + price p (p .burst)) (capacity p) beyond ∙ sym (ne-eqb (suc b) 0 (λ z. omega arith))
+
+-- the reset is the end of the wait for a whole burst
+pub reset-is-burst-wait : (p : Plan) (at backlog : ℕ) → resetAt p at backlog ≡ at + retryAfter p backlog (p .burst)
+unfolding resetAt retryAfter
+reset-is-burst-wait p at backlog =
+    let e : backlog + price p (p .burst) - capacity p ≡ backlog = omega (arith, capacity-is-price p) in
+    ap (λ (x : ℕ). at + divUp x (p .limit)) (sym e)
+
+-- where nothing is owed it is the moment itself
+pub reset-of-nothing : (p : Plan) (at : ℕ) → resetAt p at 0 ≡ at
+unfolding resetAt
+reset-of-nothing p at = omega (arith, divUp-zero (p .limit))
+
+-- it is never before the moment
+pub reset-from : (p : Plan) (at backlog : ℕ) → at ≤ resetAt p at backlog
+unfolding resetAt
+reset-from p at backlog = omega arith
+
+module _
+    {R : Type 0} {E : Engine R} (L : Lawful E) (p : Plan) (at : ℕ) (r : R) (rate : 1 ≤ p .limit) (s : E .sound p at r ≡ true)
+    (m : ℕ) (from : at ≤ m) where
+  -- with the record untouched, a whole burst is admitted from the reset on, and at no moment before
+  pub burst-from-reset : E .admits p m r (p .burst) ≡ leb (resetAt p at (E .backlog p at r)) m
+  burst-from-reset =
+      let until : at + (m - at) ≡ m = omega arith in
+      let reset = reset-is-burst-wait p at (E .backlog p at r) in
+      ap (λ (k : ℕ). E .admits p k r (p .burst)) (sym until)
+      ∙ least-wait L p at r (p .burst) rate (omega arith) s (m - at)
+      ∙ leb-same (retryAfter p (E .backlog p at r) (p .burst)) (m - at) (resetAt p at (E .backlog p at r)) m
+      (λ h. omega arith) (λ h. omega arith)
+
+  -- .. and nothing is owed from the reset on, and something at every moment before
+  pub drained-from-reset : eqb (E .backlog p m r) 0 ≡ leb (resetAt p at (E .backlog p at r)) m
+  drained-from-reset =
+      sym (burst-iff-nothing-owed p (E .backlog p m r)) ∙ sym (L .admits-iff p m r (p .burst)) ∙ burst-from-reset
