@@ -45,7 +45,7 @@ module _ {C R : Type 0} (E : Engine R) (K : Columns C R) (r : Request) (c : C) w
         (s : ℕ) → s < delay → onClock (r .query .moment + s * 1000) ≡ true → acquire (ruleOf E) K (later (s * 1000) r) c .answer .number ≡ 8
 
 module _ {C R : Type 0} {E : Engine R} (L : Lawful E) (K : Columns C R) (r : Request) (c : C) where
-  within-plan : Ground E K r c 8 → planOk (r .query .plan) ≡ true
+  pub within-plan : Ground E K r c 8 → planOk (r .query .plan) ≡ true
   within-plan (throttled p i o s a) = p .asked .plan
 
   kept : {delay wait : ℕ} → Covers delay wait → LeastWait E K r c wait → Kept E K r c delay

@@ -2,4 +2,5 @@
 pub mod Cases
 pub mod Least
 pub mod Client
+pub mod Renewed
 pub mod Worked

@@ -3,7 +3,8 @@
 -- Assumes nothing.
 use mathlib.Core.Path.{_≡_}
 use mathlib.Core.Bool.{true, false, _&&_, _||_}
-use Prim.Native.Nat.{ℕ}
+use mathlib.Core.Logic.{_⊎_}
+use Prim.Native.Nat.{ℕ, _<_}
 use lib.Dec.{eqb}
 use lib.ListN.{getD}
 use Rattle.rate.specs.Decision.{bare}
@@ -20,6 +21,7 @@ use Rattle.table.proofs.Numbers as numbers
 use Rattle.table.proofs.Peek as looks
 use Rattle.table.proofs.PeekNumbers as peeks
 use Rattle.table.proofs.Placing as placing
+use Rattle.table.proofs.Reset as reset
 use Rattle.table.proofs.Stored.{Stored}
 use Rattle.table.proofs.Wait as wait
 use Rattle.table.proofs.Writes as writes
@@ -48,6 +50,10 @@ pub record AcquireLaws {C R : Type 0} (E : Engine R) (K : Columns C R) (r : Requ
   -- demand 2: the wait is the least
   pub least-wait :
       acquire (ruleOf E) K r c .answer .number ≡ 8 → wait.LeastWait E K r c (acquire (ruleOf E) K r c .answer .wait)
+  -- demand 2 (document 02, Item 2): the reset is the first moment at which nothing is owed and the whole burst is admitted
+  pub reset-moment :
+      (acquire (ruleOf E) K r c .answer .number ≡ 0) ⊎ (acquire (ruleOf E) K r c .answer .number ≡ 8) →
+      reset.ResetMoment E K (r .query) (acquire (ruleOf E) K r c .after) (acquire (ruleOf E) K r c .answer .reset)
   -- demand 2: any cost up to B is admitted on a cleared table
   pub cleared-admits :
       clear K c .answer .number ≡ 0 → Payable r (K .slots c) → acquire (ruleOf E) K r (clear K c .after) .answer .number ≡ 0
@@ -68,6 +74,13 @@ pub record PeekLaws {C R : Type 0} (E : Engine R) (K : Columns C R) (q : Query) 
   pub is-free-acquire :
       peekVerdict (ruleOf E) K q c
       ≡ guard bare (queryCheck q (K .slots c)) (judge E (q .plan) (q .moment) (held (ruleOf E) K q c) 0 .verdict)
+  -- the reset is the first moment at which nothing is owed
+  pub first-drained :
+      peek (ruleOf E) K q c .answer .number ≡ 0 → reset.FirstDrained E K q c (peek (ruleOf E) K q c .answer .reset)
+  -- .. and, of a subscriber with a slot, at which the whole burst is admitted
+  pub reset-moment :
+      (i : ℕ) → i < K .slots c → carries (K .ids c) (q .subscriber) i ≡ true → peek (ruleOf E) K q c .answer .number ≡ 0 →
+      reset.ResetMoment E K q c (peek (ruleOf E) K q c .answer .reset)
   -- a slot is free if it is empty or owes nothing
   pub vacant-owes-nothing :
       (i : ℕ) →
@@ -97,6 +110,7 @@ module _ {C R : Type 0} {E : Engine R} (lawful : Lawful E) {K : Columns C R} (st
               other-slots = writes.other-slots (ruleOf E) K r c stored;
               taken-slot = writes.taken-slot (ruleOf E) K r c stored;
               least-wait = wait.call-least-wait lawful K r c;
+              reset-moment = reset.acquire-reset lawful K stored r c;
               cleared-admits = cleared.cleared-number lawful K stored c r;
               peek-after-admission = looks.peek-after-admission lawful K stored r c;
               peek-of-denied = looks.peek-of-denied lawful K r c;
@@ -105,6 +119,8 @@ module _ {C R : Type 0} {E : Engine R} (lawful : Lawful E) {K : Columns C R} (st
             record {
               exactly-when = peeks.peek-exactly-when E K q c lawful;
               is-free-acquire = looks.peek-is-free-acquire lawful K q c;
+              first-drained = reset.peek-first-drained lawful K q c;
+              reset-moment = reset.peek-held-reset lawful K q c;
               vacant-owes-nothing = placing.vacant-owes-nothing lawful K q c;
             };
         clear-0 = peeks.clear-0 K;
