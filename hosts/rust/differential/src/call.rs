@@ -34,6 +34,14 @@ impl Call {
     }
 }
 
+pub fn ask(moment: u64, subscriber: u32, cost: u32) -> Call {
+    Call::Acquire {
+        moment,
+        subscriber,
+        cost,
+    }
+}
+
 impl fmt::Display for Call {
     fn fmt(&self, f: &mut fmt::Formatter) -> fmt::Result {
         match *self {

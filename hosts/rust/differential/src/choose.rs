@@ -1,6 +1,6 @@
 //! Arguments and tables at random, chosen so that every outcome is frequent.
 
-use crate::call::Terms;
+use crate::call::{plan_of, Terms};
 use crate::engine::Engine;
 use crate::rng::Rng;
 use model::plan::{Plan, LAST_MOMENT};
@@ -81,12 +81,41 @@ pub fn cost(rng: &mut Rng, burst: u32) -> u32 {
     }
 }
 
-/// What a table at random is chosen for.
-pub struct Around {
-    pub plan: Plan,
-    pub moment: u128,
+/// Arguments at random, and a damaged table that is chosen for them.
+pub struct Scene<E> {
+    pub terms: Terms,
+    pub moment: u64,
     pub subscriber: u32,
-    pub cost: u128,
+    pub cost: u32,
+    pub table: Table<E>,
+}
+
+pub fn scene<E: Engine>(rng: &mut Rng) -> Scene<E> {
+    let terms = terms(rng);
+    let moment = moment(rng);
+    let subscriber = subscriber(rng);
+    let cost = cost(rng, terms.burst);
+    let around = Around {
+        plan: plan_of(&terms),
+        moment: moment as u128,
+        subscriber,
+        cost: cost as u128,
+    };
+    Scene {
+        terms,
+        moment,
+        subscriber,
+        cost,
+        table: table(rng, &around),
+    }
+}
+
+/// What a table at random is chosen for.
+struct Around {
+    plan: Plan,
+    moment: u128,
+    subscriber: u32,
+    cost: u128,
 }
 
 #[derive(Clone, Copy, PartialEq, Eq)]
@@ -105,7 +134,7 @@ const MOODS: [Mood; 4] = [Mood::Any, Mood::Full, Mood::OneFree, Mood::Known];
 
 /// A table that is damaged in one way or another: ids twice, records of empty slots, impossible records, and columns
 /// of unequal or forbidden lengths.
-pub fn table<E: Engine>(rng: &mut Rng, around: &Around) -> Table<E> {
+fn table<E: Engine>(rng: &mut Rng, around: &Around) -> Table<E> {
     let slots = length(rng);
     let mood = rng.pick(&MOODS);
     let mut table = Table::<E>::cleared(slots);

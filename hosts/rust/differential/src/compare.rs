@@ -58,6 +58,13 @@ impl<E: Engine> Pair<E> {
         Ok(answer)
     }
 
+    /// What the subscriber's own record owes at a moment; nothing without a slot.
+    pub fn owed(&self, subscriber: u32, moment: u64) -> Option<u128> {
+        let own = self.model.ids.iter().position(|&id| id == subscriber)?;
+        let record = E::load(&self.model.columns, own);
+        Some(record.debt(&plan_of(&self.terms), moment as u128))
+    }
+
     /// Whether the last call gave somebody the slot of another.
     pub fn took_over(&self) -> bool {
         let mut slots = self.before.ids.iter().zip(&self.model.ids);

@@ -1,9 +1,11 @@
 //! What an HTTP response says of an answer, reckoned by the archive and by the model: of any five numbers, and of the answers
-//! to clients, who are admitted if they wait as long as they are told, and not a second earlier.
+//! to clients, who are admitted if they wait as long as they are told, and with their whole burst after the reset, and not a
+//! second earlier.
 
-use crate::call::{plan_of, Call, Terms};
+use crate::call::{ask, plan_of, Terms};
 use crate::choose;
 use crate::compare::{Difference, Pair};
+use crate::counts::Counts;
 use crate::engine::Engine;
 use crate::out::answered;
 use crate::rng::Rng;
@@ -18,39 +20,32 @@ const ADMITTED: usize = 1;
 const THROTTLED: usize = 2;
 const REFUSED: usize = 3;
 const WAITED: usize = 4;
-const NAMES: [&str; 5] = ["bad plan", "admitted", "throttled", "refused", "waited"];
+const RENEWED: usize = 5;
+const KINDS: [&str; 6] = [
+    "bad plan",
+    "admitted",
+    "throttled",
+    "refused",
+    "waited",
+    "renewed",
+];
 
-/// How many answers of each kind were compared, and how many clients waited as long as they were told.
-pub struct Counts([u64; 5]);
-
-impl Counts {
-    pub fn line(&self) -> String {
-        let cells = NAMES.iter().zip(self.0);
-        let cells: Vec<String> = cells
-            .map(|(name, count)| format!("{name} {count}"))
-            .collect();
-        format!("http     fields of answers agree: {}\n", cells.join(", "))
-    }
-
-    /// What should have occurred and did not, in words.
-    pub fn missing(&self) -> impl Iterator<Item = String> + '_ {
-        let never = NAMES.iter().zip(self.0).filter(|(_, count)| *count == 0);
-        never.map(|(name, _)| format!("http {name}"))
-    }
-}
+/// How many answers of each kind were compared, how many clients waited as long as they were told, and how many came for their
+/// whole burst at the reset that they were told.
+pub type Fields = Counts<6>;
 
 struct Trial {
     rng: Rng,
     spoil: Option<Spoil>,
-    counts: Counts,
+    counts: Fields,
 }
 
 /// Each time any five numbers, and a client of either engine.
-pub fn run(seed: u64, times: u64, spoil: Option<Spoil>) -> Result<Counts, Difference> {
+pub fn run(seed: u64, times: u64, spoil: Option<Spoil>) -> Result<Fields, Difference> {
     let mut trial = Trial {
         rng: Rng::new(seed),
         spoil,
-        counts: Counts([0; 5]),
+        counts: Counts::new("http", "fields of answers agree", KINDS),
     };
     for _ in 0..times {
         trial.any_numbers()?;
@@ -78,7 +73,8 @@ impl Trial {
         self.fields(&terms, moment, &answer).map(|_| ())
     }
 
-    /// Somebody spends the whole burst, and a client asks some time later.
+    /// Somebody spends the whole burst, and a client asks some time later. Then it comes again when it is told to, or for its
+    /// whole burst after the reset.
     fn client<E: Engine>(&mut self) -> Result<(), Difference> {
         let rng = &mut self.rng;
         let terms = choose::terms(rng);
@@ -89,21 +85,26 @@ impl Trial {
         let mut pair = Pair::new(terms, Table::<E>::cleared(1), None);
         pair.call(&ask(begin, spender, terms.burst))?;
         let answer = pair.call(&ask(moment, subscriber, cost))?.map(|n| n as u64);
-        let retry_after = self.fields(&terms, moment, &answer)?[4];
-        let later = moment.saturating_add(retry_after.saturating_mul(1000));
-        if answer[0] != 8 || later > choose::LAST {
+        let told = self.fields(&terms, moment, &answer)?;
+        let (kind, cost, seconds) = match answer[0] {
+            8 if self.rng.once_in(2) => (WAITED, cost, told[4]),
+            0 | 8 => (RENEWED, terms.burst, told[3]),
+            _ => return Ok(()),
+        };
+        let later = moment.saturating_add(seconds.saturating_mul(1000));
+        if later > choose::LAST {
             return Ok(());
         }
-        self.counts.0[WAITED] += 1;
+        self.counts.count(kind, true);
         let early = pair.call(&ask(later.saturating_sub(1000), subscriber, cost))?[0];
         let late = pair.call(&ask(later, subscriber, cost))?[0];
         if (early, late) == (8, 0) {
             return Ok(());
         }
-        let name = E::NAME;
+        let (name, why) = (E::NAME, KINDS[kind]);
         Err(format!(
-            "{name}: under {terms:?} the request of subscriber {subscriber} and cost {cost} at {moment} was told to retry \
-             after {retry_after} s; it gets {late} then, and {early} a second earlier\n"
+            "{name}: under {terms:?} subscriber {subscriber} got {answer:?} at {moment} and was told {seconds} s ({why}); \
+             cost {cost} gets {late} then, and {early} a second earlier\n"
         ))
     }
 
@@ -119,7 +120,9 @@ impl Trial {
         let mut fields = answered(|out| numbers::http_fields(terms, moment, answer, out));
         if let Some(spoil) = self.spoil {
             spoil.fields(terms, answer, &mut fields);
-            expected[4] = expected[4].saturating_sub(u128::from(spoil.shortens_both()));
+            if let Some(time) = spoil.shortens_both() {
+                expected[time] = expected[time].saturating_sub(1);
+            }
         }
         let told: [u64; 5] = std::array::from_fn(|i| fields[i]);
         if !fields.intact() || told.map(u128::from) != expected {
@@ -136,16 +139,8 @@ impl Trial {
             8 => THROTTLED,
             _ => REFUSED,
         };
-        self.counts.0[kind] += 1;
+        self.counts.count(kind, true);
         Ok(told)
-    }
-}
-
-fn ask(moment: u64, subscriber: u32, cost: u32) -> Call {
-    Call::Acquire {
-        moment,
-        subscriber,
-        cost,
     }
 }
 

@@ -1,9 +1,10 @@
 //! Compares the proved archive, through its C interface, with the second implementation: after every call the answer and
-//! every column; over a run both engines with the book; and the fields for HTTP. `options::USAGE` says how to run it.
+//! every column; over a run both engines with the book; what a reset is worth; and the fields for HTTP. `options::USAGE` says how to run it.
 
 mod call;
 mod choose;
 mod compare;
+mod counts;
 mod course;
 mod engine;
 mod http;
@@ -11,6 +12,7 @@ mod joint;
 mod lent;
 mod options;
 mod out;
+mod reset;
 mod rng;
 mod runs;
 mod single;
@@ -29,8 +31,15 @@ use trial::Trial;
 
 type Run = fn(&mut Trial) -> Result<(), Difference>;
 
-/// Every kind of run, and the fields for HTTP; the counts for the report.
-fn compare_all(options: &Options) -> Result<(Vec<Tally>, http::Counts), Difference> {
+/// What was compared, for the report.
+struct Compared {
+    tallies: Vec<Tally>,
+    resets: reset::Resets,
+    fields: http::Fields,
+}
+
+/// Every kind of run, what a reset is worth, and the fields for HTTP.
+fn compare_all(options: &Options) -> Result<Compared, Difference> {
     let part = |percent| options.calls / 100 * percent;
     let kinds: [(&Kind, u64, Run); 6] = [
         (&SINGLE, part(55), single::run),
@@ -47,7 +56,11 @@ fn compare_all(options: &Options) -> Result<(Vec<Tally>, http::Counts), Differen
         run(&mut trial)?;
         tallies.extend(trial.tallies);
     }
-    Ok((tallies, http::run(options.seed, part(5), spoil)?))
+    Ok(Compared {
+        tallies,
+        resets: reset::run(options.seed, part(5), spoil)?,
+        fields: http::run(options.seed, part(5), spoil)?,
+    })
 }
 
 /// How often each number occurred.
@@ -71,14 +84,16 @@ fn say(text: &str) -> Result<(), u8> {
 /// The whole comparison, and with what exit status it fails.
 fn run(options: &Options) -> Result<(), u8> {
     say(&format!("{}\n", options.again()))?;
-    let (tallies, fields) = compare_all(options).map_err(|difference| {
+    let compared = compare_all(options).map_err(|difference| {
         eprintln!("{difference}The same again: {}", options.again());
         1
     })?;
-    say(&report(&tallies))?;
-    say(&fields.line())?;
-    let missing = tallies.iter().flat_map(Tally::missing);
-    let missing: Vec<String> = missing.chain(fields.missing()).collect();
+    say(&report(&compared.tallies))?;
+    say(&compared.resets.line())?;
+    say(&compared.fields.line())?;
+    let missing = compared.tallies.iter().flat_map(Tally::missing);
+    let missing = missing.chain(compared.resets.missing());
+    let missing: Vec<String> = missing.chain(compared.fields.missing()).collect();
     if missing.is_empty() {
         return Ok(());
     }

@@ -1,7 +1,7 @@
 //! Single calls, each on a damaged table of its own, of either engine in turn.
 
-use crate::call::{plan_of, Call};
-use crate::choose::{self, Around};
+use crate::call::{ask, Call};
+use crate::choose;
 use crate::compare::{Difference, Pair};
 use crate::engine::Engine;
 use crate::trial::Trial;
@@ -16,28 +16,14 @@ pub fn run(trial: &mut Trial) -> Result<(), Difference> {
 }
 
 fn one<E: Engine>(trial: &mut Trial) -> Result<(), Difference> {
-    let rng = &mut trial.rng;
-    let terms = choose::terms(rng);
-    let moment = choose::moment(rng);
-    let subscriber = choose::subscriber(rng);
-    let cost = choose::cost(rng, terms.burst);
-    let around = Around {
-        plan: plan_of(&terms),
-        moment: moment as u128,
-        subscriber,
-        cost: cost as u128,
-    };
-    let table = choose::table::<E>(rng, &around);
-    let call = match rng.below(16) {
+    let scene = choose::scene::<E>(&mut trial.rng);
+    let (moment, subscriber) = (scene.moment, scene.subscriber);
+    let call = match trial.rng.below(16) {
         0 => Call::Clear,
         1..=4 => Call::Peek { moment, subscriber },
-        _ => Call::Acquire {
-            moment,
-            subscriber,
-            cost,
-        },
+        _ => ask(moment, subscriber, scene.cost),
     };
-    let mut pair = Pair::new(terms, table, trial.spoil);
+    let mut pair = Pair::new(scene.terms, scene.table, trial.spoil);
     let answer = pair.call(&call)?;
     trial.count(&pair, &call, &answer);
     Ok(())

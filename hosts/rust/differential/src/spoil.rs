@@ -13,6 +13,7 @@ pub enum Fault {
     WaitShort,
     LeftMore,
     ResetLate,
+    ResetDown,
     Nobody,
     FullForCorrupt,
     DenialWrites,
@@ -35,6 +36,8 @@ pub enum Fault {
     ResetMoment,
     RefusalTold,
     RetryEarly,
+    ResetSoon,
+    ResetEarly,
 }
 
 /// Each fault by its name, and in words.
@@ -42,6 +45,7 @@ const FAULTS: &str = "\
 wait-short        the wait under 8 is one too short
 left-more         acquire reports one unit too many left
 reset-late        acquire reports a reset one too late
+reset-down        acquire and peek report the reset rounded down
 nobody            a refusal names subscriber 0
 full-for-corrupt  number 9 in place of 7
 denial-writes     the record is written under 8
@@ -64,6 +68,8 @@ quota-limit       the quota is the limit
 reset-moment      the seconds until the reset are counted from moment 0
 refusal-told      what is left is told under every number
 retry-early       Retry-After is a second too short, and the model's too
+reset-soon        the seconds until the reset are one too few, and the model's too
+reset-early       the reset is one too early, and the model's too
 ";
 
 fn fault(name: &str) -> Option<Fault> {
@@ -71,6 +77,7 @@ fn fault(name: &str) -> Option<Fault> {
         "wait-short" => Fault::WaitShort,
         "left-more" => Fault::LeftMore,
         "reset-late" => Fault::ResetLate,
+        "reset-down" => Fault::ResetDown,
         "nobody" => Fault::Nobody,
         "full-for-corrupt" => Fault::FullForCorrupt,
         "denial-writes" => Fault::DenialWrites,
@@ -93,6 +100,8 @@ fn fault(name: &str) -> Option<Fault> {
         "reset-moment" => Fault::ResetMoment,
         "refusal-told" => Fault::RefusalTold,
         "retry-early" => Fault::RetryEarly,
+        "reset-soon" => Fault::ResetSoon,
+        "reset-early" => Fault::ResetEarly,
         _ => return None,
     })
 }
@@ -100,14 +109,17 @@ fn fault(name: &str) -> Option<Fault> {
 const BOTH: &str = "both";
 const BOOK: &str = "book";
 const HTTP: &str = "http";
+const RESET: &str = "reset";
 
-/// Where a fault is tried: in one engine, in both at once, in the book, or in the fields for HTTP. The refilled level and the last moment are the
-/// token bucket's alone; and nonsense of both engines alike shows against the book alone.
+/// Where a fault is tried: in one engine, in both at once, in the book, in the fields for HTTP, or in what a shop takes for the
+/// reset. The refilled level and the last moment are the token bucket's alone; and nonsense of both engines alike shows
+/// against the book alone.
 fn places(fault: Fault) -> &'static [&'static str] {
     match fault {
         Fault::Deaf => &[BOOK],
         Fault::RetryDown | Fault::QuotaLimit | Fault::ResetMoment => &[HTTP],
-        Fault::RefusalTold | Fault::RetryEarly => &[HTTP],
+        Fault::RefusalTold | Fault::RetryEarly | Fault::ResetSoon => &[HTTP],
+        Fault::ResetEarly => &[RESET],
         Fault::DenialRefills | Fault::LastLate => &[Bucket::NAME],
         Fault::Nonsense => &[Paced::NAME, Bucket::NAME, BOTH],
         _ => &[Paced::NAME, Bucket::NAME],
@@ -146,14 +158,25 @@ impl Spoil {
             (Fault::QuotaLimit, _) => fields[0] = terms.limit as u64,
             (Fault::ResetMoment, 0 | 8) => fields[3] = answer[3].div_ceil(1000),
             (Fault::RefusalTold, _) => fields[2] = answer[2],
-            (Fault::RetryEarly, _) => fields[4] = fields[4].saturating_sub(1),
             _ => (),
+        }
+        if let Some(time) = self.shortens_both() {
+            fields[time] = fields[time].saturating_sub(1);
         }
     }
 
-    /// Whether it shortens the model's Retry-After as it does the archive's.
-    pub fn shortens_both(self) -> bool {
-        self.fault == Fault::RetryEarly
+    /// How much too early the reset is.
+    pub fn early(self) -> u64 {
+        u64::from(self.fault == Fault::ResetEarly)
+    }
+
+    /// The place of the time, if any, that is a second too short in the model's fields and the archive's alike.
+    pub fn shortens_both(self) -> Option<usize> {
+        match self.fault {
+            Fault::RetryEarly => Some(4),
+            Fault::ResetSoon => Some(3),
+            _ => None,
+        }
     }
 }
 
@@ -181,7 +204,7 @@ impl<E: Engine> Done<'_, E> {
     pub fn spoil(&mut self, fault: Fault) {
         match self.call {
             Call::Acquire { moment, .. } => self.spoil_acquire(fault, *moment as u128),
-            Call::Peek { .. } => self.spoil_peek(fault),
+            Call::Peek { moment, .. } => self.spoil_peek(fault, *moment as u128),
             Call::Clear => self.spoil_clear(fault),
         }
         if fault == Fault::Nobody && matches!(self.out[0], 1..=7 | 9) {
@@ -194,6 +217,7 @@ impl<E: Engine> Done<'_, E> {
             (Fault::WaitShort, 8) => self.out[4] -= 1,
             (Fault::LeftMore, 0 | 8) => self.out[2] += 1,
             (Fault::ResetLate | Fault::Nonsense, 0 | 8) => self.out[3] += 1,
+            (Fault::ResetDown, 0 | 8) => self.round_down(moment),
             (Fault::FullForCorrupt, 7) => self.out[0] = 9,
             (Fault::DenialWrites, 8) => self.touch(0, self.own()),
             (Fault::DenialRefills, 8) => self.refill(moment),
@@ -212,9 +236,10 @@ impl<E: Engine> Done<'_, E> {
         }
     }
 
-    fn spoil_peek(&mut self, fault: Fault) {
+    fn spoil_peek(&mut self, fault: Fault, moment: u128) {
         match (fault, self.out[0]) {
             (Fault::PeekLeft, 0) => self.out[2] += 1,
+            (Fault::ResetDown, 0) => self.round_down(moment),
             (Fault::PeekWrites, 0) => self.touch(E::COLUMNS.len() - 1, self.own()),
             _ => (),
         }
@@ -236,6 +261,17 @@ impl<E: Engine> Done<'_, E> {
         let ids = self.after.ids.inside();
         let own = ids.iter().position(|&id| id == self.call.subscriber());
         own.unwrap_or(ids.len())
+    }
+
+    /// Reports the reset as it would be with the debt divided by the limit and rounded down.
+    fn round_down(&mut self, moment: u128) {
+        let columns = self.after.columns.iter();
+        let columns: Vec<Vec<u64>> = columns.map(|column| column.inside().to_vec()).collect();
+        let slot = self.own();
+        if slot < self.after.ids.inside().len() {
+            let debt = E::load(&columns, slot).debt(self.plan, moment);
+            self.out[3] = (moment + debt / self.plan.limit) as u64;
+        }
     }
 
     /// Writes in one number of a slot's record, where the table has the slot.
