@@ -54,10 +54,10 @@
  *     out[RAILCADENCE_NUMBER]      the outcome, below
  *     out[RAILCADENCE_SUBSCRIBER]  the subscriber asked for, in refusals too; 0 for a clear
  *     out[RAILCADENCE_LEFT]        whole units left after the call
- *     out[RAILCADENCE_RESET]       the first moment at which nothing is owed any more. A subscriber that
- *                                  has a slot gets its whole burst from then on, and not before, if
- *                                  nothing else is admitted meanwhile and that moment is within its
- *                                  limit
+ *     out[RAILCADENCE_RESET]       the first moment at which nothing is owed any more. A subscriber
+ *                                  that has a slot gets its whole burst from then on, and not
+ *                                  before, if nothing else is admitted meanwhile and that moment is
+ *                                  within its limit
  *     out[RAILCADENCE_WAIT]        when throttled, the least number of milliseconds after which the
  *                                  same request is admitted, if nothing else is admitted meanwhile
  *                                  and that moment is within its limit; otherwise 0
@@ -222,9 +222,10 @@ enum {
     RAILCADENCE_HTTP_QUOTA,       /* the burst */
     RAILCADENCE_HTTP_WINDOW,      /* in which a whole burst is earned */
     RAILCADENCE_HTTP_REMAINING,   /* under 0 and 8, what is left; otherwise 0 */
-    RAILCADENCE_HTTP_RESET,       /* under 0 and 8, from the moment to the reset: a client that waits so
-                                   * long gets its whole burst, and a second less is not enough, as
-                                   * below; otherwise 0 */
+    RAILCADENCE_HTTP_RESET,       /* under 0 and 8, from the moment to the reset: a client that has
+                                   * a slot and waits so long gets its whole burst, if nothing else
+                                   * is admitted meanwhile, and a second less is not enough;
+                                   * otherwise 0 */
     RAILCADENCE_HTTP_RETRY_AFTER, /* under 8, the wait: a client that waits so long is admitted, if
                                    * nothing else is admitted meanwhile, and a second less is not
                                    * enough; otherwise 0 */

@@ -16,7 +16,7 @@ pub struct HttpFields {
     pub window: u64,
     /// Units left; 0 beside a refusal.
     pub remaining: u64,
-    /// From the moment to the reset; 0 beside a refusal.
+    /// From the moment to the reset, after which a client that has a slot gets its whole burst; 0 beside a refusal.
     pub reset: u64,
     /// A client that waits so long is admitted, if nothing else is admitted meanwhile and that moment is within its limit;
     /// a second less is not enough. 0 unless throttled.
