@@ -1,5 +1,6 @@
-//! What a reset is worth (document 02, Item 2): after any call on any table, with nothing else admitted, the whole burst is
-//! admitted at the reset, and a millisecond earlier it must wait for one.
+//! What a reset is worth (document 02, Item 2): after a call with 0 or 8 on any table, of a shop that has a slot, and with nothing
+//! else admitted, the whole burst is admitted at the reset, and a millisecond earlier it must wait for one. Resets beyond the
+//! clock are not tried.
 
 use crate::call::{ask, plan_of, Call};
 use crate::choose;
