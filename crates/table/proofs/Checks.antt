@@ -2,11 +2,11 @@
 -- Assumes nothing.
 use mathlib.Core.Path.{_≡_, refl, sym, _∙_}
 use mathlib.Core.Logic.{_⊎_, inl, inr}
-use mathlib.Core.Bool.{Bool, true, false, false≢true, _&&_}
+use mathlib.Core.Bool.{Bool, true, false, false≢true, and-true, and-false}
 use Prim.Native.Nat.{ℕ, zero, suc, _≤_}
 use native.Mathlib.Omega.{arith}
 use lib.Dec.{eqb, leb, ltb}
-use borrow.Author.Tests.{le-leb, leb-true, eq-eqb, ne-eqb}
+use borrow.Author.Tests.{le-leb, lt-leb, leb-true, eq-eqb, ne-eqb}
 use Rattle.rate.specs.Grains.{planOk, onClock, InForce}
 use Rattle.rate.proofs.Limits.{in-force}
 use Rattle.rate.proofs.Tests.{both}
@@ -113,10 +113,15 @@ slots-least slots e = leb-true _ _ (both _ _ e .0)
 pub slots-some : (slots : ℕ) → slots ≤ mostSlots → slotsOk slots ≡ leb 1 slots
 unfolding slotsOk
 slots-some slots h = rw (le-leb slots mostSlots h) (and-true (leb 1 slots))
-  where
-    and-true : (t : Bool) → (t && true) ≡ t
-    and-true true = refl
-    and-true false = refl
+
+-- document 02, Item 8: 1 to 65,535 slots are a table
+pub slots-within : (slots : ℕ) → 1 ≤ slots → slots ≤ 65535 → slotsOk slots ≡ true
+slots-within slots some most = slots-some slots (omega arith) ∙ le-leb 1 slots some
+
+-- .. and 65,536 or more are none
+pub slots-beyond : (slots : ℕ) → 65536 ≤ slots → slotsOk slots ≡ false
+unfolding slotsOk
+slots-beyond slots h = rw (lt-leb slots mostSlots (omega arith)) (and-false (leb 1 slots))
 
 module _ (r : Request) (slots : ℕ) where
   -- checks 1 to 4 answer an ask as they answer a look

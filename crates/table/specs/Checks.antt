@@ -10,7 +10,7 @@ use Rattle.table.specs.Request.{Query, Request}
 
 -- the table of limits: the most slots (document 01's seats); the least is 1
 abbrev pub mostSlots : ℕ
-mostSlots = 4096
+mostSlots = 65535
 
 -- the number of slots is within its limits; it counts as 0 where the columns are unequal (check 2)
 unfoldable pub slotsOk : ℕ → Bool

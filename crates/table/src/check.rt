@@ -7,7 +7,7 @@ use rate::plan::Plan;
 use rate::units::Millis;
 
 // The most slots of a table; the least is 1.
-pub const MOST_SLOTS: usize = 4096;
+pub const MOST_SLOTS: usize = 65535;
 
 pub enum Check {
     Passed,

@@ -55,9 +55,7 @@ impl Book {
 
     /// An ask that passed checks 1 to 6. The admitted one is added at the end of its subscriber's list.
     fn decide(&mut self, s: u128, subscriber: u32, cost: u128) -> Verdict {
-        let others = self.lists.iter().filter(|(&other, _)| other != subscriber);
-        let owing = others.filter(|(_, list)| self.owed(list, s) > 0).count();
-        if owing == self.slots {
+        if self.is_full(s, subscriber) {
             return refusal(9);
         }
         let debt = self.debt(subscriber, s);
@@ -70,6 +68,15 @@ impl Book {
             cost: cost as i128,
         });
         settled(&self.plan, s, after)
+    }
+
+    /// As many other subscribers as there are slots have a positive debt.
+    fn is_full(&self, s: u128, subscriber: u32) -> bool {
+        if self.lists.len() < self.slots {
+            return false; // not so many were ever admitted
+        }
+        let others = self.lists.iter().filter(|(&other, _)| other != subscriber);
+        others.filter(|(_, list)| self.owed(list, s) > 0).count() == self.slots
     }
 
     fn debt(&self, subscriber: u32, s: u128) -> u128 {
@@ -122,7 +129,8 @@ mod tests {
         assert_eq!(number(1, Plan::new(3, 1000, 0), 0, 7, 1), 1);
         assert_eq!(number(1, plan(), 4_398_046_511_103, 7, 1), 0);
         assert_eq!(number(1, plan(), 4_398_046_511_104, 7, 1), 3);
-        assert_eq!(number(4097, plan(), 0, 7, 1), 2);
+        assert_eq!(number(65_535, plan(), 0, 7, 1), 0);
+        assert_eq!(number(65_536, plan(), 0, 7, 1), 2);
         assert_eq!(number(1, plan(), 0, 0, 0), 4);
         assert_eq!(Book::new(plan(), 1).acquire(0, 7, 2), [0, 7, 0, 667, 0]);
         assert_eq!(Book::new(plan(), 1).peek(1000, 7), [0, 7, 2, 1000, 0]);

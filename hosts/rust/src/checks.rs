@@ -2,7 +2,8 @@
 
 use crate::plan::{Plan, LAST_MOMENT};
 
-pub const MOST_SLOTS: usize = 4096;
+/// Of the library (document 02, Item 8); the program has its own.
+pub const MOST_SLOTS: usize = 65_535;
 
 /// The first of checks 1 to 4 that applies. `usable` says that the table passes check 2.
 pub fn of_look(plan: &Plan, usable: bool, moment: u128, subscriber: u128) -> Option<u128> {

@@ -197,8 +197,8 @@ mod tests {
         assert_eq!(number::<R>(1, Plan::new(3, 1000, 0), 0, 7, 1), 1);
         assert_eq!(number::<R>(1, plan(), 4_398_046_511_103, 7, 1), 0);
         assert_eq!(number::<R>(1, plan(), 4_398_046_511_104, 7, 1), 3);
-        assert_eq!(number::<R>(4096, plan(), 0, 7, 1), 0);
-        assert_eq!(number::<R>(4097, plan(), 0, 7, 1), 2);
+        assert_eq!(number::<R>(65_535, plan(), 0, 7, 1), 0);
+        assert_eq!(number::<R>(65_536, plan(), 0, 7, 1), 2);
         assert_eq!(number::<R>(0, plan(), 0, 7, 1), 2);
         assert_eq!(number::<R>(1, plan(), 0, 0, 0), 4);
         let whole_burst = Table::<R>::cleared(1).acquire(&plan(), 1000, 7, 2);

@@ -187,7 +187,8 @@ mod tests {
         let last = "ask\t4398046511103\t7\t1\n";
         assert_eq!(answer(last.as_bytes()), "0 7 1 4398046511437 0\n");
         assert_eq!(answer(b"ask\t4398046511104\t7\t1\n"), "3 7 0 0 0\n");
-        assert_eq!(answers("plan 4097 3 1000 2\n"), "2 0 0 0 0\n");
+        assert_eq!(answers("plan 65536 3 1000 2\n"), "2 0 0 0 0\n");
+        assert_eq!(answers("plan 65535 3 1000 2\n"), "2 0 0 0 0\n");
         assert_eq!(answers("plan 1025 3 1000 2\n"), "2 0 0 0 0\n");
         assert_eq!(answers("plan 1024 3 1000 2\n"), "");
         assert_eq!(answer(b"ask\t0\t0\t0\n"), "4 0 0 0 0\n");

@@ -3,11 +3,15 @@
 use crate::call::{plan_of, Terms};
 use crate::engine::Engine;
 use crate::rng::Rng;
+use model::checks::MOST_SLOTS;
 use model::plan::{Plan, LAST_MOMENT};
 use model::table::Table;
 
 const MOST: [u32; 3] = [1_000_000, 2_678_400_000, 1_000_000];
 pub const LAST: u64 = LAST_MOMENT as u64;
+
+/// How many slots of a table are drawn; the others repeat them, in any order.
+const MOST_DRAWN: usize = 256;
 
 /// A plan within its limits, at one of them now and then.
 pub fn good_terms(rng: &mut Rng) -> Terms {
@@ -81,7 +85,7 @@ pub fn cost(rng: &mut Rng, burst: u32) -> u32 {
     }
 }
 
-/// Arguments at random, and a damaged table that is chosen for them.
+/// Arguments at random, and a damaged table of so many slots that is chosen for them.
 pub struct Scene<E> {
     pub terms: Terms,
     pub moment: u64,
@@ -90,7 +94,7 @@ pub struct Scene<E> {
     pub table: Table<E>,
 }
 
-pub fn scene<E: Engine>(rng: &mut Rng) -> Scene<E> {
+pub fn scene<E: Engine>(rng: &mut Rng, slots: usize) -> Scene<E> {
     let terms = terms(rng);
     let moment = moment(rng);
     let subscriber = subscriber(rng);
@@ -106,7 +110,7 @@ pub fn scene<E: Engine>(rng: &mut Rng) -> Scene<E> {
         moment,
         subscriber,
         cost,
-        table: table(rng, &around),
+        table: table(rng, &around, slots),
     }
 }
 
@@ -133,15 +137,20 @@ enum Mood {
 const MOODS: [Mood; 4] = [Mood::Any, Mood::Full, Mood::OneFree, Mood::Known];
 
 /// A table that is damaged in one way or another: ids twice, records of empty slots, impossible records, and columns
-/// of unequal or forbidden lengths.
-fn table<E: Engine>(rng: &mut Rng, around: &Around) -> Table<E> {
-    let slots = length(rng);
+/// of unequal lengths.
+fn table<E: Engine>(rng: &mut Rng, around: &Around, slots: usize) -> Table<E> {
     let mood = rng.pick(&MOODS);
     let mut table = Table::<E>::cleared(slots);
-    for slot in 0..slots {
+    let drawn = slots.min(MOST_DRAWN);
+    for slot in 0..drawn {
         table.ids[slot] = id(rng, around.subscriber, mood);
         let owing = matches!(mood, Mood::Full | Mood::OneFree);
         record::<E>(rng, around, owing).store(&mut table.columns, slot);
+    }
+    for slot in drawn..slots {
+        let like = rng.below(drawn as u64) as usize;
+        table.ids[slot] = table.ids[like];
+        E::load(&table.columns, like).store(&mut table.columns, slot);
     }
     if slots > 0 {
         mend(rng, around, mood, &mut table);
@@ -152,9 +161,10 @@ fn table<E: Engine>(rng: &mut Rng, around: &Around) -> Table<E> {
     table
 }
 
-fn length(rng: &mut Rng) -> usize {
+/// How many slots a table has; now and then none, or one too many.
+pub fn length(rng: &mut Rng) -> usize {
     match rng.below(128) {
-        0 => rng.pick(&[4095, 4096, 4097]),
+        0 => rng.of_any_size(MOST_SLOTS as u64 + 1) as usize,
         1..=3 => rng.from(9, 100) as usize,
         4..=11 => 0,
         12..=40 => 1,
@@ -221,7 +231,7 @@ fn mend<E: Engine>(rng: &mut Rng, around: &Around, mood: Mood, table: &mut Table
 fn cut<E: Engine>(rng: &mut Rng, table: &mut Table<E>) {
     let which = rng.below(table.columns.len() as u64 + 1) as usize;
     let slots = table.ids.len() as u64;
-    let length = rng.pick(&[slots + 1, slots.saturating_sub(1), 0, 1, 4096]) as usize;
+    let length = rng.pick(&[slots + 1, slots.saturating_sub(1), 0, 1, 1000]) as usize;
     if which == 0 {
         table.ids.resize(length, 1);
     } else {

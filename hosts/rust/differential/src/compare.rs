@@ -37,7 +37,8 @@ impl<E: Engine> Pair<E> {
 
     /// The answer on which both agree.
     pub fn call(&mut self, call: &Call) -> Result<Answer, Difference> {
-        self.before.clone_from(&self.model);
+        self.before.ids.clone_from(&self.model.ids);
+        self.before.columns.clone_from(&self.model.columns);
         let expected = self.ask_model(call);
         let out = self.ask_archive(call);
         let answer: Answer = array::from_fn(|i| u128::from(out[i]));
@@ -58,6 +59,12 @@ impl<E: Engine> Pair<E> {
         Ok(answer)
     }
 
+    /// How many slots every column has.
+    pub fn slots(&self) -> usize {
+        let lengths = self.model.columns.iter().map(Vec::len);
+        lengths.fold(self.model.ids.len(), usize::min)
+    }
+
     /// What the subscriber's own record owes at a moment; nothing without a slot.
     pub fn owed(&self, subscriber: u32, moment: u64) -> Option<u128> {
         let own = self.model.ids.iter().position(|&id| id == subscriber)?;
@@ -65,10 +72,11 @@ impl<E: Engine> Pair<E> {
         Some(record.debt(&plan_of(&self.terms), moment as u128))
     }
 
-    /// Whether the last call gave somebody the slot of another.
-    pub fn took_over(&self) -> bool {
-        let mut slots = self.before.ids.iter().zip(&self.model.ids);
-        slots.any(|(&before, &after)| before != 0 && after != 0 && before != after)
+    /// Whether the last call, which was admitted, gave its subscriber the slot of another.
+    pub fn took_over(&self, subscriber: u32) -> bool {
+        let own = self.model.ids.iter().position(|&id| id == subscriber);
+        let before = own.map_or(0, |own| self.before.ids[own]);
+        before != 0 && before != subscriber
     }
 
     fn ask_model(&mut self, call: &Call) -> Answer {

@@ -4,16 +4,16 @@
 use crate::call::{plan_of, Call, Terms};
 use crate::choose::{self, LAST};
 use crate::rng::Rng;
-use model::checks::MOST_SLOTS;
 use model::plan::div_up;
 use model::table::Answer;
 
-/// How many slots: few; from 41 to 4,095; or 4,096.
+/// How many slots: few; from 41 to 4,096; or exactly so many, which are filled once, under a plan and at moments that let
+/// everybody come to owe nothing then.
 #[derive(Clone, Copy, PartialEq, Eq)]
 pub enum Size {
     Few,
     Between,
-    Most,
+    Exactly(usize),
 }
 
 pub struct Course {
@@ -34,7 +34,7 @@ pub struct Course {
 fn terms(rng: &mut Rng, size: Size) -> Terms {
     match rng.below(16) {
         0 if size == Size::Few => choose::bad_terms(rng),
-        0..=5 => choose::good_terms(rng),
+        0..=5 if !matches!(size, Size::Exactly(_)) => choose::good_terms(rng),
         _ => Terms {
             limit: rng.pick(&[1, 2, 3, 7, 10, 1000]),
             period: rng.pick(&[1, 2, 10, 999, 1000, 86_400_000]),
@@ -45,8 +45,8 @@ fn terms(rng: &mut Rng, size: Size) -> Terms {
 
 fn slots(rng: &mut Rng, size: Size) -> u64 {
     match (size, rng.below(16)) {
-        (Size::Most, _) => MOST_SLOTS as u64,
-        (Size::Between, _) => 40 + rng.of_any_size(MOST_SLOTS as u64 - 41),
+        (Size::Exactly(slots), _) => slots as u64,
+        (Size::Between, _) => 40 + rng.of_any_size(4096 - 40),
         (Size::Few, 0) => rng.from(9, 40),
         (Size::Few, 1..=5) => 1,
         (Size::Few, _) => rng.from(2, 8),
@@ -82,7 +82,9 @@ impl Course {
         match self.size {
             Size::Few if rng.once_in(32) => rng.from(50, 3000),
             Size::Few => rng.from(50, 400),
-            _ => 100 + rng.from(2 * slots, 3 * slots),
+            Size::Between => 100 + rng.from(2 * slots, 3 * slots),
+            // seven of eight calls fill a slot, and then some more
+            Size::Exactly(_) => slots + slots / 7 + 3000,
         }
     }
 
@@ -91,9 +93,15 @@ impl Course {
         self.moment = match rng.below(4) {
             0 => 0,
             1 => rng.below(10_000),
+            _ if self.once() => rng.of_any_size(LAST / 2),
             2 => rng.of_any_size(LAST),
             _ => LAST - rng.below(self.drain.clamp(1, LAST)),
         };
+    }
+
+    /// The table is filled once.
+    fn once(&self) -> bool {
+        matches!(self.size, Size::Exactly(_))
     }
 
     /// A cleared table of many slots is filled first: one subscriber more than slots asks, while the clock stands.
@@ -108,7 +116,7 @@ impl Course {
         if self.to_come > 0 {
             return self.newcomer(rng);
         }
-        if rng.once_in(200 + 2 * self.slots as u64) {
+        if !self.once() && rng.once_in(200 + 2 * self.slots as u64) {
             self.gather();
             return Call::Clear;
         }
@@ -187,7 +195,12 @@ impl Course {
     }
 
     fn tick(&mut self, rng: &mut Rng) {
-        let step = if rng.once_in(64 + self.slots as u64) {
+        let rests = if self.once() {
+            192
+        } else {
+            64 + self.slots as u64
+        };
+        let step = if rng.once_in(rests) {
             self.drain
         } else if rng.once_in(2) {
             0

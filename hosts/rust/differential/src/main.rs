@@ -1,5 +1,6 @@
 //! Compares the proved archive, through its C interface, with the second implementation: after every call the answer and
-//! every column; over a run both engines with the book; what a reset is worth; and the fields for HTTP. `options::USAGE` says how to run it.
+//! every column, on any table and on tables of the most slots and of one more; over a run both engines with the book; what a
+//! reset is worth; and the fields for HTTP. `options::USAGE` says how to run it.
 
 mod call;
 mod choose;
@@ -26,7 +27,7 @@ use options::{Options, Wish};
 use std::env;
 use std::io::{self, Write};
 use std::process::ExitCode;
-use tally::{Kind, Tally, BETWEEN, FALLING, RISING, SINGLE, STEADY, WIDE};
+use tally::{Kind, Tally, BETWEEN, BEYOND, FALLING, MOST, RISING, SINGLE, STEADY, WIDE};
 use trial::Trial;
 
 type Run = fn(&mut Trial) -> Result<(), Difference>;
@@ -41,8 +42,12 @@ struct Compared {
 /// Every kind of run, what a reset is worth, and the fields for HTTP.
 fn compare_all(options: &Options) -> Result<Compared, Difference> {
     let part = |percent| options.calls / 100 * percent;
-    let kinds: [(&Kind, u64, Run); 6] = [
-        (&SINGLE, part(55), single::run),
+    // so many reach what they must, and a call on so many slots takes its time
+    let limit = (options.calls / 75).min(2000);
+    let kinds: [(&Kind, u64, Run); 8] = [
+        (&SINGLE, part(55), single::any),
+        (&MOST, limit, single::most),
+        (&BEYOND, limit / 2, single::beyond),
         (&RISING, part(25), runs::rising),
         (&FALLING, part(10), runs::falling),
         (&BETWEEN, part(5), runs::between),
@@ -68,7 +73,7 @@ fn report(tallies: &[Tally]) -> String {
     let total: u64 = tallies.iter().map(Tally::total).sum();
     let lines: String = tallies.iter().map(Tally::lines).collect();
     format!(
-        "{total} calls agree; how often each number was answered:\n{}\n{lines}",
+        "{total} calls agree; how often each number was answered, and the most slots of a table:\n{}\n{lines}",
         Tally::header()
     )
 }

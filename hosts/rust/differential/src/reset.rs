@@ -49,7 +49,8 @@ pub fn run(seed: u64, times: u64, spoil: Option<Spoil>) -> Result<Resets, Differ
 impl Trial {
     /// A call on a damaged table; and if the shop then has a slot, its whole burst a millisecond before the reset and at it.
     fn shop<E: Engine>(&mut self) -> Result<(), Difference> {
-        let scene = choose::scene::<E>(&mut self.rng);
+        let slots = choose::length(&mut self.rng);
+        let scene = choose::scene::<E>(&mut self.rng, slots);
         let (terms, moment, subscriber) = (scene.terms, scene.moment, scene.subscriber);
         let call = match self.rng.below(3) {
             0 => Call::Peek { moment, subscriber },

@@ -1,11 +1,12 @@
 //! Long runs, which begin with a clear: on tables of few slots with a clock that rises or that falls now and then, and on
-//! larger ones and the largest.
+//! larger ones and the largest that the calls can fill.
 
 use crate::call::Call;
 use crate::compare::Difference;
 use crate::course::{Course, Size};
 use crate::joint::Joint;
 use crate::trial::Trial;
+use model::checks::MOST_SLOTS;
 
 pub fn rising(trial: &mut Trial) -> Result<(), Difference> {
     all(trial, Size::Few, false)
@@ -19,8 +20,15 @@ pub fn between(trial: &mut Trial) -> Result<(), Difference> {
     all(trial, Size::Between, false)
 }
 
+/// How many slots so many calls of both engines can fill, and are filled in the one wide run.
+pub fn wide_slots(calls: u64) -> usize {
+    (calls as usize / 5 * 2).clamp(1, MOST_SLOTS)
+}
+
 pub fn wide(trial: &mut Trial) -> Result<(), Difference> {
-    all(trial, Size::Most, false)
+    let size = Size::Exactly(wide_slots(trial.calls));
+    let course = Course::new(&mut trial.rng, size, false);
+    one(trial, course, false)
 }
 
 fn all(trial: &mut Trial, size: Size, falls: bool) -> Result<(), Difference> {

@@ -4,6 +4,7 @@ use crate::call::{Call, Terms};
 use crate::engine::Engine;
 use crate::lent::Lent;
 use crate::out::Out;
+use model::checks::MOST_SLOTS;
 use model::decision::{Bucket, Paced};
 use model::plan::Plan;
 use model::table::Table;
@@ -23,6 +24,8 @@ pub enum Fault {
     ClearShort,
     ClearEager,
     FreeStrict,
+    SlotsShort,
+    SlotsBeyond,
     Unwritten,
     PeekLeft,
     PeekWrites,
@@ -55,6 +58,8 @@ neighbour         an admission writes in the slot beside its own
 clear-short       a clear leaves the last slot
 clear-eager       a refused clear empties the ids
 free-strict       9 where the lowest free slot is free with nothing to spare
+slots-short       a table of the most slots gets 2
+slots-beyond      a table of one slot more does not get 2
 unwritten         an admission is not written
 peek-left         peek reports one unit too many left
 peek-writes       a peek writes in the subscriber's slot
@@ -87,6 +92,8 @@ fn fault(name: &str) -> Option<Fault> {
         "clear-short" => Fault::ClearShort,
         "clear-eager" => Fault::ClearEager,
         "free-strict" => Fault::FreeStrict,
+        "slots-short" => Fault::SlotsShort,
+        "slots-beyond" => Fault::SlotsBeyond,
         "unwritten" => Fault::Unwritten,
         "peek-left" => Fault::PeekLeft,
         "peek-writes" => Fault::PeekWrites,
@@ -207,8 +214,11 @@ impl<E: Engine> Done<'_, E> {
             Call::Peek { moment, .. } => self.spoil_peek(fault, *moment as u128),
             Call::Clear => self.spoil_clear(fault),
         }
-        if fault == Fault::Nobody && matches!(self.out[0], 1..=7 | 9) {
-            self.out[1] = 0;
+        match (fault, self.out[0]) {
+            (Fault::Nobody, 1..=7 | 9) => self.out[1] = 0,
+            (Fault::SlotsShort, 0 | 3..=9) if self.has(MOST_SLOTS) => self.refuse(2),
+            (Fault::SlotsBeyond, 2) if self.has(MOST_SLOTS + 1) => self.out[0] = 0,
+            _ => (),
         }
     }
 
@@ -227,11 +237,7 @@ impl<E: Engine> Done<'_, E> {
             (Fault::Outside, 0) => self.after.ids.overrun(0),
             (Fault::Before, 0) => self.after.columns[E::COLUMNS.len() - 1].underrun(0),
             (Fault::SixNumbers, _) => self.out.overrun(0),
-            (Fault::FreeStrict, 0) if self.took_just_free(moment) => {
-                *self.after = Lent::new(self.before);
-                let subscriber = self.out[1];
-                self.out.copy_from_slice(&[9, subscriber, 0, 0, 0]);
-            }
+            (Fault::FreeStrict, 0) if self.took_just_free(moment) => self.refuse(9),
             _ => (),
         }
     }
@@ -254,6 +260,19 @@ impl<E: Engine> Done<'_, E> {
             (Fault::ClearEager, 2) => self.after.ids.inside_mut().fill(0),
             _ => (),
         }
+    }
+
+    /// Whether each column has so many slots.
+    fn has(&self, slots: usize) -> bool {
+        let mut lengths = self.before.columns.iter().map(Vec::len);
+        self.before.ids.len() == slots && lengths.all(|length| length == slots)
+    }
+
+    /// Answers with this number, and leaves the table as it was before.
+    fn refuse(&mut self, number: u64) {
+        *self.after = Lent::new(self.before);
+        let subscriber = self.out[1];
+        self.out.copy_from_slice(&[number, subscriber, 0, 0, 0]);
     }
 
     /// The slot that carries the call's subscriber after the call; beyond the table if none does.

@@ -22,6 +22,18 @@ pub const SINGLE: Kind = Kind {
     ],
 };
 
+/// Single calls on damaged tables of exactly as many slots as a table may have reach every number that depends on the table.
+pub const MOST: Kind = Kind {
+    name: "most",
+    reach: [&[0, 2, 7, 8, 9, TAKEOVER], &[0, 2, 7], &[0]],
+};
+
+/// .. and of one slot more nothing but 2, or 1 before it.
+pub const BEYOND: Kind = Kind {
+    name: "beyond",
+    reach: [&[1, 2], &[2], &[2]],
+};
+
 /// A run starts with a cleared table, so 2 cannot occur; and no record is impossible while the clock rises.
 pub const RISING: Kind = Kind {
     name: "rising",
@@ -37,13 +49,13 @@ pub const FALLING: Kind = Kind {
     ],
 };
 
-/// Tables of 41 to 4,095 slots.
+/// Tables of 41 to 4,096 slots.
 pub const BETWEEN: Kind = Kind {
     name: "between",
     reach: CROWDED,
 };
 
-/// Tables of exactly 4,096 slots, so that a 9 here is one where all of them are taken.
+/// A table of as many slots as the calls can fill, so that a 9 here is one where all of them are taken.
 pub const WIDE: Kind = Kind {
     name: "wide",
     reach: CROWDED,
@@ -64,6 +76,8 @@ pub struct Tally {
     kind: &'static Kind,
     engine: &'static str,
     counts: [[u64; 11]; 3],
+    /// The most slots of a table.
+    slots: [usize; 3],
 }
 
 impl Tally {
@@ -72,11 +86,12 @@ impl Tally {
             kind,
             engine,
             counts: [[0; 11]; 3],
+            slots: [0; 3],
         }
     }
 
     /// Counts an answer that was compared, so its number is one of document 01's.
-    pub fn count(&mut self, call: &Call, number: u128, took_over: bool) {
+    pub fn count(&mut self, call: &Call, number: u128, took_over: bool, slots: usize) {
         let row = match call {
             Call::Acquire { .. } => 0,
             Call::Peek { .. } => 1,
@@ -84,6 +99,7 @@ impl Tally {
         };
         self.counts[row][number as usize] += 1;
         self.counts[row][TAKEOVER] += u64::from(took_over);
+        self.slots[row] = self.slots[row].max(slots);
     }
 
     pub fn total(&self) -> u64 {
@@ -93,17 +109,17 @@ impl Tally {
 
     pub fn header() -> String {
         let names: String = NAMES.iter().map(|name| format!("{name:>9}")).collect();
-        format!("{:30}{names}", "")
+        format!("{:30}{names}{:>9}", "", "slots")
     }
 
     /// A line for each call that was made.
     pub fn lines(&self) -> String {
         let mut text = String::new();
-        for (call, counts) in CALLS.iter().zip(&self.counts) {
+        for ((call, counts), slots) in CALLS.iter().zip(&self.counts).zip(self.slots) {
             if counts.iter().any(|&count| count > 0) {
                 let cells: String = counts.iter().map(|count| format!("{count:>9}")).collect();
                 let (kind, engine) = (self.kind.name, self.engine);
-                text += &format!("{kind:8} {engine:12} {call:8}{cells}\n");
+                text += &format!("{kind:8} {engine:12} {call:8}{cells}{slots:>9}\n");
             }
         }
         text

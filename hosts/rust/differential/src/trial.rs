@@ -17,7 +17,7 @@ pub struct Trial {
     /// One for each engine.
     pub tallies: [Tally; 2],
     /// How many calls of both engines the kind of run is to make, or a few more.
-    calls: u64,
+    pub calls: u64,
     done: u64,
     name: &'static str,
     spoken: Instant,
@@ -42,7 +42,9 @@ impl Trial {
 
     /// Counts a call of an engine that got this answer.
     pub fn count<E: Engine>(&mut self, pair: &Pair<E>, call: &Call, answer: &Answer) {
-        self.tallies[E::PLACE].count(call, answer[0], pair.took_over());
+        let admitted = matches!(call, Call::Acquire { .. }) && answer[0] == 0;
+        let took_over = admitted && pair.took_over(call.subscriber());
+        self.tallies[E::PLACE].count(call, answer[0], took_over, pair.slots());
         self.done += 1;
         if self.done.is_multiple_of(4096) && self.spoken.elapsed() > EVERY {
             eprintln!("{}: {} calls of {}", self.name, self.done, self.calls);

@@ -71,7 +71,7 @@ fn one_number() -> Vec<Vec<u8>> {
             BEYOND_32_BITS + 1,
             u64::MAX,
         ];
-        for number in [0, 1, 2, most - 1, most, most + 1, 4096, 4097]
+        for number in [0, 1, 2, most - 1, most, most + 1, 65_535, 65_536]
             .into_iter()
             .chain(wide)
         {
