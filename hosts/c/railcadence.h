@@ -28,7 +28,7 @@
  *     limit           1      1000000                   units
  *     period          1      2678400000 (31 days)      milliseconds
  *     burst           1      1000000                   units
- *     each .._len     1      4096, all the same        slots
+ *     each .._len     1      65535, all the same       slots
  *     moment          0      4398046511103 (2^42 - 1)  milliseconds, from any fixed zero
  *     subscriber      1      4294967295                a number for whoever asks
  *     cost            1      burst                     units

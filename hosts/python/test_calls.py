@@ -1,9 +1,10 @@
 """Tests of railcadence.py: the worked example's lines, the reset, numbers that do not fit, and tables of any size."""
 
 import unittest
+from ctypes import c_uint32, c_uint64
 from pathlib import Path
 
-from railcadence import ADMITTED, BAD_TABLE, Answer, Gcra, HttpFields, Plan, TokenBucket, http_fields
+from railcadence import ADMITTED, BAD_TABLE, TABLE_FULL, Answer, Gcra, HttpFields, Plan, TokenBucket, http_fields
 
 EXAMPLES = Path(__file__).resolve().parents[2] / "examples"
 PLAN = Plan(limit=3, period=1000, burst=2)
@@ -49,10 +50,34 @@ class Calls(unittest.TestCase):
 
     def test_tables_of_any_size(self):
         for engine in ENGINES:
-            for slots, number in [(0, BAD_TABLE), (1, ADMITTED), (4096, ADMITTED), (4097, BAD_TABLE)]:
+            for slots, number in [(0, BAD_TABLE), (1, ADMITTED), (65535, ADMITTED)]:
                 self.assertEqual(engine(slots).clear(), Answer(number, 0, 0, 0, 0))
-            with self.assertRaisesRegex(ValueError, "^slots is -1; it must be"):
-                engine(-1)
+            for slots in [-1, 65536]:
+                with self.assertRaisesRegex(ValueError, f"^slots is {slots}; it must be a whole number from 0 to 65535$"):
+                    engine(slots)
+
+    def test_65536_slots_are_too_many(self):
+        for engine in ENGINES:
+            table = engine(65535)
+            table.ids = (c_uint32 * 65536)()
+            for record in table._records:
+                setattr(table, record, (c_uint64 * 65536)())
+            self.assertEqual(table.acquire(PLAN, 1000, 7, 1), Answer(BAD_TABLE, 7, 0, 0, 0))
+            self.assertEqual(table.peek(PLAN, 1000, 7), Answer(BAD_TABLE, 7, 0, 0, 0))
+            self.assertEqual(table.clear(), Answer(BAD_TABLE, 0, 0, 0, 0))
+
+    def test_the_last_of_65535_slots_is_found(self):
+        spent = {"tats": 5000, "levels": 0, "lasts": 1000}  # what the whole burst leaves at 1000
+        for engine in ENGINES:
+            table = engine(65535)
+            table.ids[:] = [*range(1, 65535), 0]
+            for record in table._records:
+                getattr(table, record)[:] = [spent[record]] * 65534 + [2**64 - 1]  # of an empty slot it does not matter
+            self.assertEqual(table.acquire(PLAN, 1000, 65536, 2), Answer(0, 65536, 0, 1667, 0))
+            self.assertEqual(table.acquire(PLAN, 1000, 65535, 1), Answer(TABLE_FULL, 65535, 0, 0, 0))
+            self.assertEqual(list(table.ids), [*range(1, 65535), 65536])
+            for record in table._records:
+                self.assertEqual(list(getattr(table, record)), [spent[record]] * 65535)
 
     def test_what_a_client_is_told(self):
         plan = Plan(limit=60, period=3_600_000, burst=12)

@@ -65,7 +65,7 @@ pub enum Outcome {
 pub enum Reason {
     /// Limit, period or burst is outside its limits.
     BadPlan,
-    /// The columns are of different lengths, or there are not 1 to 4,096 slots.
+    /// The columns are of different lengths, or there are not 1 to 65,535 slots.
     BadTable,
     /// The moment is above 2^42 − 1 milliseconds.
     LateMoment,
@@ -186,7 +186,7 @@ impl Display for Reason {
                  and a burst of 1 to 1000000 units"
             }
             Reason::BadTable => {
-                "the columns differ in length, or there are not 1 to 4096 slots: make the table anew"
+                "the columns differ in length, or there are not 1 to 65535 slots: make the table anew"
             }
             Reason::LateMoment => {
                 "the moment is above 4398046511103: pass milliseconds, and count them from a later zero"

@@ -32,20 +32,21 @@ pub struct Gcra {
 }
 
 impl Gcra {
-    /// An empty table. With 0 or more than 4,096 slots every call gets [`Reason::BadTable`].
+    /// An empty table of 1 to 65,535 slots. With 0 every call gets [`Reason::BadTable`].
     ///
     /// ```
     /// use railcadence::{Gcra, Reason};
     ///
-    /// assert_eq!(Gcra::with_slots(4096).clear(), Ok(()));
-    /// assert_eq!(Gcra::with_slots(4097).clear(), Err(Reason::BadTable));
+    /// assert_eq!(Gcra::with_slots(65_535).clear(), Ok(()));
+    /// assert_eq!(Gcra::with_slots(0).clear(), Err(Reason::BadTable));
     /// ```
     pub fn with_slots(slots: u16) -> Gcra {
         let slots = usize::from(slots);
         Gcra::from_columns(vec![0; slots], vec![0; slots])
     }
 
-    /// A table of any columns, damaged ones too: slot i is `ids[i]` and `tats[i]`.
+    /// A table of any columns, damaged ones too: slot i is `ids[i]` and `tats[i]`. With columns of different lengths, or of none
+    /// or more than 65,535 slots, every call gets [`Reason::BadTable`].
     pub fn from_columns(ids: Vec<u32>, tats: Vec<u64>) -> Gcra {
         Gcra { ids, tats }
     }

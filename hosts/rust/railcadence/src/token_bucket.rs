@@ -29,13 +29,14 @@ pub struct TokenBucket {
 }
 
 impl TokenBucket {
-    /// An empty table. With 0 or more than 4,096 slots every call gets [`Reason::BadTable`].
+    /// An empty table of 1 to 65,535 slots. With 0 every call gets [`Reason::BadTable`].
     pub fn with_slots(slots: u16) -> TokenBucket {
         let slots = usize::from(slots);
         TokenBucket::from_columns(vec![0; slots], vec![0; slots], vec![0; slots])
     }
 
-    /// A table of any columns, damaged ones too: slot i is `ids[i]`, `levels[i]` and `lasts[i]`.
+    /// A table of any columns, damaged ones too: slot i is `ids[i]`, `levels[i]` and `lasts[i]`. With columns of different
+    /// lengths, or of none or more than 65,535 slots, every call gets [`Reason::BadTable`].
     pub fn from_columns(ids: Vec<u32>, levels: Vec<u64>, lasts: Vec<u64>) -> TokenBucket {
         TokenBucket { ids, levels, lasts }
     }

@@ -103,8 +103,10 @@ fn the_whole_burst_is_there_at_the_reset() {
 #[test]
 fn columns_of_other_lengths_are_refused() {
     let refused = Outcome::Refused(Reason::BadTable);
-    let long = usize::from(u16::MAX);
-    for (ids, records) in [(0, 0), (1, 0), (0, 1), (2, 1), (4097, 4097), (long, long)] {
+    let most = usize::from(u16::MAX);
+    let unequal = [(1, 0), (0, 1), (2, 1), (most, most - 1), (most, most + 1)];
+    let equal = [0, most + 1, most + 2, 2 * most + 1].map(|slots| (slots, slots));
+    for (ids, records) in unequal.into_iter().chain(equal) {
         let (ids, records) = (vec![7; ids], vec![5; records]);
         let mut gcra = Gcra::from_columns(ids.clone(), records.clone());
         assert_eq!(gcra.acquire(&PLAN, 0, 7, 1).outcome, refused);
@@ -118,6 +120,33 @@ fn columns_of_other_lengths_are_refused() {
         assert_eq!(bucket.clear(), Err(Reason::BadTable));
         assert_eq!(bucket.into_columns(), (ids, records, lasts));
     }
+}
+
+/// Everybody but the last owes the whole burst at 1000; the last owes nothing from then on. So a stranger gets the last slot, and
+/// 999 is too early.
+#[test]
+fn the_last_of_65_535_slots_is_found() {
+    let full = Outcome::Refused(Reason::TableFull);
+    let ids: Vec<u32> = (1..=65_535).collect();
+    let mut tats = vec![5000; 65_535];
+    tats[65_534] = 3000;
+    let mut gcra = Gcra::from_columns(ids.clone(), tats);
+    let mut levels = vec![0; 65_535];
+    levels[65_534] = 1997; // 3 ticks a millisecond, and full with 2000
+    let mut lasts = vec![1000; 65_535];
+    lasts[65_534] = 999;
+    let mut bucket = TokenBucket::from_columns(ids, levels, lasts);
+    assert_eq!(gcra.acquire(&PLAN, 999, 65_536, 2).outcome, full);
+    assert_eq!(bucket.acquire(&PLAN, 999, 65_536, 2).outcome, full);
+    let (left, reset) = (0, 1667);
+    let admitted = Outcome::Admitted { left, reset };
+    assert_eq!(gcra.acquire(&PLAN, 1000, 65_536, 2).outcome, admitted);
+    assert_eq!(bucket.acquire(&PLAN, 1000, 65_536, 2).outcome, admitted);
+    assert_eq!((gcra.ids()[65_534], gcra.tats()[65_534]), (65_536, 5000));
+    let written = (bucket.ids()[65_534], bucket.levels()[65_534]);
+    assert_eq!((written, bucket.lasts()[65_534]), ((65_536, 0), 1000));
+    assert_eq!(gcra.acquire(&PLAN, 1000, 65_535, 1).outcome, full);
+    assert_eq!(bucket.acquire(&PLAN, 1000, 65_535, 1).outcome, full);
 }
 
 #[test]
