@@ -2,17 +2,19 @@
 
 use crate::call::{Answer, Ask};
 use crate::contender::{Contender, Engine, Table};
-use crate::load::{Load, PLAN, SLOTS};
+use crate::load::{Load, PLAN};
 
 /// What all agree on.
 pub struct Agreed {
     /// How many of the asks got each number.
     pub counts: [u64; 10],
-    pub table: Table,
+    /// The table before the asks, and after them.
+    pub start: Table,
+    pub end: Table,
 }
 
 pub fn compare(engine: &Engine, load: &Load) -> Result<Agreed, String> {
-    let mut tables = [(); 3].map(|()| engine.used_table(SLOTS));
+    let mut tables = [(); 3].map(|()| engine.used_table(load.slots));
     clear_all(&engine.contenders, &mut tables)?;
     for ask in &load.warm_up {
         let answer = ask_all(&engine.contenders, &mut tables, ask)?;
@@ -23,17 +25,25 @@ pub fn compare(engine: &Engine, load: &Load) -> Result<Agreed, String> {
             ));
         }
     }
+    let start = engine.spent_table(load);
+    for table in &mut tables {
+        if load.warm_up.is_empty() {
+            table.copy_from(&start);
+        } else if *table != start {
+            return Err("the warm-up leaves another table than a spent one".to_string());
+        }
+    }
     let mut counts = [0; 10];
     for ask in &load.asks {
         let answer = ask_all(&engine.contenders, &mut tables, ask)?;
         let count = counts.get_mut(answer[0] as usize);
         *count.ok_or(format!("no such number: {}", words(ask, &answer)))? += 1;
     }
-    let [table, index, position] = tables;
-    if table != index || table != position {
+    let [end, index, position] = tables;
+    if end != index || end != position {
         return Err("the tables differ at the end".to_string());
     }
-    Ok(Agreed { counts, table })
+    Ok(Agreed { counts, start, end })
 }
 
 fn clear_all(contenders: &[Contender; 3], tables: &mut [Table; 3]) -> Result<(), String> {

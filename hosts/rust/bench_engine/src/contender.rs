@@ -3,6 +3,7 @@
 
 use crate::archive;
 use crate::call::{Answer, Ask, Plan};
+use crate::load::{Load, PLAN, START};
 use crate::plain::search::{Index, Position};
 use crate::plain::{gcra, token_bucket};
 
@@ -12,6 +13,15 @@ pub struct Table {
     pub ids: Vec<u32>,
     pub records: Vec<u64>,
     pub lasts: Vec<u64>,
+}
+
+impl Table {
+    /// Makes it the same as another of the same lengths.
+    pub fn copy_from(&mut self, other: &Table) {
+        self.ids.copy_from_slice(&other.ids);
+        self.records.copy_from_slice(&other.records);
+        self.lasts.copy_from_slice(&other.lasts);
+    }
 }
 
 pub struct Contender {
@@ -35,6 +45,21 @@ impl Engine {
             records: vec![7; slots],
             lasts: vec![7; if self.has_lasts { slots } else { 0 }],
         }
+    }
+
+    /// The table in which every holder of the load has spent the whole burst at the start.
+    pub fn spent_table(&self, load: &Load) -> Table {
+        let mut table = self.used_table(load.slots);
+        fill_with_zeros(&mut table);
+        let held = load.holders.len();
+        table.ids[..held].copy_from_slice(&load.holders);
+        if self.has_lasts {
+            table.lasts[..held].fill(START); // and the level is 0
+        } else {
+            let burst = PLAN.period as u64 * PLAN.burst as u64;
+            table.records[..held].fill(START * PLAN.limit as u64 + burst);
+        }
+        table
     }
 }
 

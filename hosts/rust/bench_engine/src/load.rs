@@ -3,57 +3,70 @@
 use crate::call::{Ask, Plan};
 use crate::draws::Draws;
 
-pub const SLOTS: usize = 4096;
-
-/// A cost of 2 drains in 4571 ms, and costs of 1 and 3 within half a millisecond, so that rounding shows. Whoever holds a slot
-/// asks for 2 in 4096 ms on average, which is a little too much.
+/// A cost of 2 drains in 4571 ms, and costs of 1 and 3 within half a millisecond, so that rounding shows. On 4,096 slots whoever
+/// holds one asks for 2 in 4096 ms on average, which is a little too much.
 pub const PLAN: Plan = Plan {
     limit: 2,
     period: 4571,
     burst: 40,
 };
 
-const START: u64 = 1_700_000_000_000;
+pub const START: u64 = 1_700_000_000_000;
+
+/// More holders than this do not ask for their slots, which would take longer than all that is timed.
+const MOST_TO_ASK: u64 = 4096;
 
 pub struct Kind {
     pub name: &'static str,
+    pub slots: usize,
     /// How many subscribers hold a slot from the start.
     holders: u64,
     /// Every other ask, on average, is from somebody who never asked before.
     strangers: bool,
     /// Two asks are less than so many milliseconds apart, half of it on average.
     gap: u64,
+    /// One ask is made where another load has so many, since each takes longer.
+    rarer: usize,
 }
 
-pub const KINDS: [Kind; 4] = [
+const fn kind(name: &'static str, holders: u64, strangers: bool, gap: u64) -> Kind {
     Kind {
-        name: "full",
-        holders: 4096,
-        strangers: false,
-        gap: 3,
-    },
+        name,
+        slots: 4096,
+        holders,
+        strangers,
+        gap,
+        rarer: 1,
+    }
+}
+
+/// On as many slots as a table may have. Nobody asks so often that it comes to owe nothing.
+const fn most(name: &'static str, holders: u64, strangers: bool) -> Kind {
     Kind {
-        name: "quarter",
-        holders: 1024,
-        strangers: false,
+        name,
+        slots: 65_535,
+        holders,
+        strangers,
         gap: 9,
-    },
-    Kind {
-        name: "strangers, full",
-        holders: 4096,
-        strangers: true,
-        gap: 2,
-    },
-    Kind {
-        name: "strangers, free",
-        holders: 1024,
-        strangers: true,
-        gap: 5,
-    },
+        rarer: 10,
+    }
+}
+
+pub const KINDS: [Kind; 7] = [
+    kind("full", 4096, false, 3),
+    kind("quarter", 1024, false, 9),
+    kind("strangers, full", 4096, true, 2),
+    kind("strangers, free", 1024, true, 5),
+    most("most, 20000", 20_000, false),
+    most("most, full", 65_535, false),
+    most("most, strangers", 65_535, true),
 ];
 
 pub struct Load {
-    /// Every holder asks for the whole burst, so that it gets a slot and owes as much as can be.
+    pub slots: usize,
+    /// Who holds a slot at the start, in the order of the slots, and owes the whole burst from then.
+    pub holders: Vec<u32>,
+    /// How each of them comes to it by asking, unless they are too many.
     pub warm_up: Vec<Ask>,
     pub asks: Vec<Ask>,
 }
@@ -62,13 +75,19 @@ impl Load {
     pub fn new(kind: &Kind, seed: u64, asks: usize) -> Load {
         let mut draws = Draws(seed);
         let mut moment = START;
-        let warm_up = (0..kind.holders).map(|i| Ask {
+        let holders: Vec<u32> = (0..kind.holders).map(holder).collect();
+        let asking = if kind.holders <= MOST_TO_ASK {
+            &holders[..]
+        } else {
+            &[]
+        };
+        let warm_up = asking.iter().map(|&subscriber| Ask {
             moment,
-            subscriber: holder(i),
+            subscriber,
             cost: PLAN.burst,
         });
         let warm_up = warm_up.collect();
-        let asks = (0..asks as u64).map(|i| {
+        let asks = (0..asks.div_ceil(kind.rarer) as u64).map(|i| {
             moment += draws.below(kind.gap);
             let strange = kind.strangers && draws.below(2) == 0;
             let known = holder(draws.below(kind.holders));
@@ -79,7 +98,12 @@ impl Load {
             }
         });
         let asks = asks.collect();
-        Load { warm_up, asks }
+        Load {
+            slots: kind.slots,
+            holders,
+            warm_up,
+            asks,
+        }
     }
 }
 

@@ -14,7 +14,7 @@ mod row;
 mod time;
 
 use contender::{Engine, ENGINES};
-use load::{Kind, Load, KINDS, PLAN, SLOTS};
+use load::{Kind, Load, KINDS, PLAN};
 use row::Row;
 use std::env;
 use std::process::ExitCode;
@@ -22,7 +22,7 @@ use std::process::ExitCode;
 const USAGE: &str = "\
 bench_engine [--asks N] [--rounds N] [--seed N] [BUILD..]
   Asks the proved archive and two plain limiters the same, in turns, and compares all answers and the final tables.
-  --asks N    how many asks of each load (default 50000)
+  --asks N    how many asks of each load (default 50000), and a tenth of it on 65535 slots
   --rounds N  how often each is timed (default 5, the least)
   --seed N    draws other asks (default 1)
   BUILD..     runs these builds of itself in its place, and prints a table of what they report
@@ -100,7 +100,8 @@ fn measure_all(options: &Options) -> Result<(), String> {
 
 fn run_builds(options: &Options) -> Result<(), String> {
     println!(
-        "{SLOTS} slots, {} units in {} ms, burst {}; {} asks of each load, seed {}, {} rounds in each of {} builds",
+        "{} units in {} ms, burst {}; 4096 slots and {} asks of each load, or where it is 'most' 65535 slots and a tenth of the \
+         asks; seed {}, {} rounds in each of {} builds",
         PLAN.limit,
         PLAN.period,
         PLAN.burst,

@@ -10,7 +10,7 @@ use crate::call::{Answer, Ask, Plan};
 const MOST_LIMIT: u32 = 1_000_000;
 const MOST_PERIOD: u32 = 2_678_400_000;
 const MOST_BURST: u32 = 1_000_000;
-const MOST_SLOTS: usize = 4096;
+const MOST_SLOTS: usize = 65_535;
 const LAST_MOMENT: u64 = (1 << 42) - 1;
 
 /// The number of the first check that applies, of 1 to 6.

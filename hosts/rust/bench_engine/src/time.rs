@@ -3,7 +3,7 @@
 use crate::clock;
 use crate::compare::Agreed;
 use crate::contender::{Contender, Engine, Table};
-use crate::load::{Load, PLAN, SLOTS};
+use crate::load::{Load, PLAN};
 use std::hint::black_box;
 
 /// The median nanoseconds per acquire of each contender.
@@ -13,12 +13,13 @@ pub fn medians(
     agreed: &Agreed,
     rounds: usize,
 ) -> Result<[f64; 3], String> {
-    let mut tables = [(); 3].map(|()| engine.used_table(SLOTS));
+    let mut tables = [(); 3].map(|()| engine.used_table(load.slots));
     let mut times = [(); 3].map(|()| Vec::new());
     for turn in 0..3 * rounds {
         let who = turn % 3;
-        times[who].push(round(&engine.contenders[who], &mut tables[who], load));
-        if tables[who] != agreed.table {
+        let contender = &engine.contenders[who];
+        times[who].push(round(contender, &mut tables[who], load, &agreed.start));
+        if tables[who] != agreed.end {
             return Err("a timed round leaves another table".to_string());
         }
     }
@@ -31,11 +32,14 @@ pub fn sorted(mut times: Vec<f64>) -> Vec<f64> {
 }
 
 /// Clears the table and fills it, and times the asks alone.
-fn round(contender: &Contender, table: &mut Table, load: &Load) -> f64 {
+fn round(contender: &Contender, table: &mut Table, load: &Load, start: &Table) -> f64 {
     let plan = black_box(PLAN);
     (contender.clear)(table);
     for ask in &load.warm_up {
         (contender.acquire)(&plan, table, ask);
+    }
+    if load.warm_up.is_empty() {
+        table.copy_from(start);
     }
     let acquire = black_box(contender.acquire);
     let begun = clock::now();
