@@ -57,7 +57,11 @@ impl Course {
     pub fn new(rng: &mut Rng, size: Size, falls: bool) -> Course {
         let terms = terms(rng, size);
         let slots = slots(rng, size);
-        let subscribers = slots + rng.from(1, slots + 2);
+        let least = match size {
+            Size::Exactly(_) => 1 + slots / 2, // so that somebody without a slot asks soon
+            _ => 1,
+        };
+        let subscribers = slots + rng.from(least, slots + 2);
         let drain = div_up(plan_of(&terms).full(), plan_of(&terms).limit) as u64;
         let share = drain / subscribers;
         let mut course = Course {
