@@ -40,7 +40,7 @@ const fn kind(name: &'static str, holders: u64, strangers: bool, gap: u64) -> Ki
     }
 }
 
-/// On as many slots as a table may have. Nobody asks so often that it comes to owe nothing.
+/// On as many slots as a table may have. The default asks are over before anybody owes nothing.
 const fn most(name: &'static str, holders: u64, strangers: bool) -> Kind {
     Kind {
         name,

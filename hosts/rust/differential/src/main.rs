@@ -42,8 +42,8 @@ struct Compared {
 /// Every kind of run, what a reset is worth, and the fields for HTTP.
 fn compare_all(options: &Options) -> Result<Compared, Difference> {
     let part = |percent| options.calls / 100 * percent;
-    // so many reach what they must, and a call on so many slots takes its time
-    let limit = (options.calls / 75).min(2000);
+    // 2000 reach what they must; more of them only in longer comparisons, since a call on so many slots takes its time
+    let limit = (options.calls / 75).min(2000).max(options.calls / 2000);
     let kinds: [(&Kind, u64, Run); 8] = [
         (&SINGLE, part(55), single::any),
         (&MOST, limit, single::most),
@@ -51,7 +51,7 @@ fn compare_all(options: &Options) -> Result<Compared, Difference> {
         (&RISING, part(25), runs::rising),
         (&FALLING, part(10), runs::falling),
         (&BETWEEN, part(5), runs::between),
-        (&WIDE, part(5), runs::wide),
+        (&WIDE, part(3), runs::wide),
         (&STEADY, 3001, steady::run),
     ];
     let spoil = options.spoil.as_ref().map(|(_, spoil)| *spoil);

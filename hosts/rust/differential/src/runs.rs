@@ -20,15 +20,10 @@ pub fn between(trial: &mut Trial) -> Result<(), Difference> {
     all(trial, Size::Between, false)
 }
 
-/// How many slots so many calls of both engines can fill, and are filled in the one wide run.
-pub fn wide_slots(calls: u64) -> usize {
-    (calls as usize / 5 * 2).clamp(1, MOST_SLOTS)
-}
-
+/// As many slots as one run of these calls can fill, which takes more than two calls a slot.
 pub fn wide(trial: &mut Trial) -> Result<(), Difference> {
-    let size = Size::Exactly(wide_slots(trial.calls));
-    let course = Course::new(&mut trial.rng, size, false);
-    one(trial, course, false)
+    let slots = (trial.calls as usize / 20 * 11).clamp(1, MOST_SLOTS);
+    all(trial, Size::Exactly(slots), false)
 }
 
 fn all(trial: &mut Trial, size: Size, falls: bool) -> Result<(), Difference> {

@@ -47,7 +47,10 @@ impl Trial {
         self.tallies[E::PLACE].count(call, answer[0], took_over, pair.slots());
         self.done += 1;
         if self.done.is_multiple_of(4096) && self.spoken.elapsed() > EVERY {
-            eprintln!("{}: {} calls of {}", self.name, self.done, self.calls);
+            eprintln!(
+                "{}: {} calls, of at least {}",
+                self.name, self.done, self.calls
+            );
             self.spoken = Instant::now();
         }
     }
