@@ -41,7 +41,8 @@
  *     is empty, whatever its other columns say; zeros everywhere are an empty table, and that is
  *     what a clear makes. A subscriber without a slot gets the lowest free one when it is
  *     admitted. A slot is free if it is empty or its subscriber owes nothing any more, so a table
- *     needs as many slots as subscribers owe something at the same time.
+ *     needs as many slots as subscribers owe something at the same time. A call looks at the slots
+ *     one by one, so it takes longer the more there are.
  *
  *     Tats and levels are counted in ticks. A millisecond is `limit` ticks and a unit costs
  *     `period` ticks, so keep a table to one plan, and clear it before it serves another. Between
