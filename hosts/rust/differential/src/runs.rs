@@ -1,5 +1,5 @@
 //! Long runs, which begin with a clear: on tables of few slots with a clock that rises or that falls now and then, and on
-//! larger ones and the largest that the calls can fill.
+//! larger ones, the largest of which has the most slots by default.
 
 use crate::call::Call;
 use crate::compare::Difference;
@@ -20,7 +20,8 @@ pub fn between(trial: &mut Trial) -> Result<(), Difference> {
     all(trial, Size::Between, false)
 }
 
-/// As many slots as one run of these calls can fill, which takes more than two calls a slot.
+/// So many slots that one run, which has more than two calls for each, makes at least the calls that are due; at most as many as
+/// a table may have, and then over again until they are made.
 pub fn wide(trial: &mut Trial) -> Result<(), Difference> {
     let slots = (trial.calls as usize / 20 * 11).clamp(1, MOST_SLOTS);
     all(trial, Size::Exactly(slots), false)

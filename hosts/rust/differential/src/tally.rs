@@ -55,7 +55,7 @@ pub const BETWEEN: Kind = Kind {
     reach: CROWDED,
 };
 
-/// A table of as many slots as the calls can fill, so that a 9 here is one where all of them are taken.
+/// Tables of the most slots by default, which are all filled, so that a 9 here is one where each of them is taken.
 pub const WIDE: Kind = Kind {
     name: "wide",
     reach: CROWDED,
