@@ -53,6 +53,14 @@ impl Book {
         [0; 5]
     }
 
+    /// Loses all but the last `most` calls of a subscriber's list. The rules have no such call: it is a mistake, with which the
+    /// comparisons are tried.
+    pub fn forget(&mut self, subscriber: u32, most: usize) {
+        if let Some(list) = self.lists.get_mut(&subscriber) {
+            list.drain(..list.len().saturating_sub(most));
+        }
+    }
+
     /// An ask that passed checks 1 to 6. The admitted one is added at the end of its subscriber's list.
     fn decide(&mut self, s: u128, subscriber: u32, cost: u128) -> Verdict {
         if self.is_full(s, subscriber) {
@@ -151,6 +159,20 @@ mod tests {
             assert_eq!(book.acquire(333 * k, 7, 1)[0], 0, "ask {k}");
         }
         assert_eq!(book.acquire(333 * 1001, 7, 1)[0], 8);
+    }
+
+    /// 1000 asks at one moment: a book that forgets admits more than the burst, and another does not.
+    #[test]
+    fn every_call_counts_or_the_last_ones() {
+        for (most, admitted) in [(1000, 500), (100, 1000)] {
+            let mut book = Book::new(Plan::new(1, 1, 500), 1);
+            let asks = (0..1000).map(|_| {
+                let number = book.acquire(0, 7, 1)[0];
+                book.forget(7, most);
+                number
+            });
+            assert_eq!(asks.filter(|&number| number == 0).count(), admitted);
+        }
     }
 
     /// A long rest leaves no credit: a term that fell below 0 is not carried into the debt of later calls.

@@ -1,4 +1,18 @@
-//! How often each of some named things occurred, outside of the runs that `tally` counts.
+//! How often each of some named things occurred, besides what `tally` counts.
+
+use crate::call::Call;
+
+/// The kinds of a call that gets 0 or 8.
+pub const ANSWERED: [&str; 3] = ["admitted", "throttled", "looked at"];
+
+/// The place in `ANSWERED` of a call and its number.
+pub fn answered(call: &Call, number: u128) -> usize {
+    match (call, number) {
+        (Call::Peek { .. }, _) => 2,
+        (_, 0) => 0,
+        _ => 1,
+    }
+}
 
 pub struct Counts<const N: usize> {
     /// What was compared, and in words what was found.

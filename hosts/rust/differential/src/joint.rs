@@ -9,6 +9,9 @@ use model::book::Book;
 use model::decision::{Bucket, Paced};
 use model::table::{Answer, Table};
 
+/// How many admitted calls of a subscriber a book with a short memory sees.
+const SHORT_MEMORY: usize = 100;
+
 pub struct Joint {
     terms: Terms,
     gcra: Pair<Paced>,
@@ -32,8 +35,11 @@ impl Joint {
     pub fn call(&mut self, trial: &mut Trial, call: &Call) -> Result<[Answer; 2], Difference> {
         let engines = [self.gcra.call(call)?, self.token_bucket.call(call)?];
         if let Some(book) = &mut self.book {
-            let deaf = trial.spoil.is_some_and(|s| s.keeps_from_the_book(call));
-            let history = if deaf { engines[0] } else { ask(book, call) };
+            let history = match trial.spoil {
+                Some(spoil) if spoil.keeps_from_the_book(call) => engines[0],
+                Some(spoil) if spoil.shortens_the_book() => ask_and_forget(book, call),
+                _ => ask(book, call),
+            };
             if engines != [history; 2] {
                 return Err(self.difference(call, engines, history));
             }
@@ -70,6 +76,13 @@ fn ask(book: &mut Book, call: &Call) -> Answer {
         Call::Peek { moment, subscriber } => book.peek(moment, subscriber),
         Call::Clear => book.clear(),
     }
+}
+
+/// What a book with a short memory answers.
+pub fn ask_and_forget(book: &mut Book, call: &Call) -> Answer {
+    let answer = ask(book, call);
+    book.forget(call.subscriber(), SHORT_MEMORY);
+    answer
 }
 
 fn leftovers<E: Engine>(trial: &mut Trial, slots: usize) -> Table<E> {

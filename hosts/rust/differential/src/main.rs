@@ -1,6 +1,6 @@
 //! Compares the proved archive, through its C interface, with the second implementation: after every call the answer and
-//! every column, on any table and on tables of the most slots and of one more; over a run both engines with the book; what a
-//! reset is worth; and the fields for HTTP. `options::USAGE` says how to run it.
+//! every column, on any table and on tables of the most slots and of one more; over a run both engines with the book, also where
+//! it must remember long; what a reset is worth; and the fields for HTTP. `options::USAGE` says how to run it.
 
 mod call;
 mod choose;
@@ -10,6 +10,7 @@ mod course;
 mod engine;
 mod http;
 mod joint;
+mod lasting;
 mod lent;
 mod options;
 mod out;
@@ -27,7 +28,7 @@ use options::{Options, Wish};
 use std::env;
 use std::io::{self, Write};
 use std::process::ExitCode;
-use tally::{Kind, Tally, BETWEEN, BEYOND, FALLING, MOST, RISING, SINGLE, STEADY, WIDE};
+use tally::{Kind, Tally, BETWEEN, BEYOND, FALLING, LASTING, MOST, RISING, SINGLE, STEADY, WIDE};
 use trial::Trial;
 
 type Run = fn(&mut Trial) -> Result<(), Difference>;
@@ -35,6 +36,7 @@ type Run = fn(&mut Trial) -> Result<(), Difference>;
 /// What was compared, for the report.
 struct Compared {
     tallies: Vec<Tally>,
+    lasting: lasting::Remembered,
     resets: reset::Resets,
     fields: http::Fields,
 }
@@ -61,8 +63,12 @@ fn compare_all(options: &Options) -> Result<Compared, Difference> {
         run(&mut trial)?;
         tallies.extend(trial.tallies);
     }
+    let mut trial = Trial::new(&LASTING, options.seed, part(2), spoil);
+    let lasting = lasting::run(&mut trial)?;
+    tallies.extend(trial.tallies);
     Ok(Compared {
         tallies,
+        lasting,
         resets: reset::run(options.seed, part(5), spoil)?,
         fields: http::run(options.seed, part(5), spoil)?,
     })
@@ -94,9 +100,11 @@ fn run(options: &Options) -> Result<(), u8> {
         1
     })?;
     say(&report(&compared.tallies))?;
+    say(&compared.lasting.line())?;
     say(&compared.resets.line())?;
     say(&compared.fields.line())?;
     let missing = compared.tallies.iter().flat_map(Tally::missing);
+    let missing = missing.chain(compared.lasting.missing());
     let missing = missing.chain(compared.resets.missing());
     let missing: Vec<String> = missing.chain(compared.fields.missing()).collect();
     if missing.is_empty() {

@@ -5,18 +5,18 @@
 use crate::call::{ask, plan_of, Call};
 use crate::choose;
 use crate::compare::{circumstances, Difference, Pair};
-use crate::counts::Counts;
+use crate::counts::{answered, Counts, ANSWERED};
 use crate::engine::Engine;
 use crate::rng::Rng;
 use crate::spoil::Spoil;
 use model::decision::{Bucket, Paced};
 
-const ADMITTED: usize = 0;
-const THROTTLED: usize = 1;
-const LOOKED_AT: usize = 2;
 const NOT_WHOLE: usize = 3;
 const AT_ONCE: usize = 4;
-const KINDS: [&str; 5] = ["admitted", "throttled", "looked at", "not whole", "at once"];
+const KINDS: [&str; 5] = {
+    let [admitted, throttled, looked_at] = ANSWERED;
+    [admitted, throttled, looked_at, "not whole", "at once"]
+};
 
 /// After how many calls of each kind a shop asked for its whole burst; and how many of the resets lay between two whole
 /// milliseconds before they were rounded, or were the moment of the call.
@@ -75,18 +75,10 @@ impl Trial {
                 circumstances(&terms, &call)
             ));
         }
-        self.counts.count(kind(&call, answer[0]), true);
+        self.counts.count(answered(&call, answer[0]), true);
         let whole = owed.is_multiple_of(plan_of(&terms).limit);
         self.counts.count(NOT_WHOLE, !whole);
         self.counts.count(AT_ONCE, reset == moment);
         Ok(())
-    }
-}
-
-fn kind(call: &Call, number: u128) -> usize {
-    match (call, number) {
-        (Call::Peek { .. }, _) => LOOKED_AT,
-        (_, 0) => ADMITTED,
-        _ => THROTTLED,
     }
 }

@@ -34,6 +34,7 @@ pub enum Fault {
     SixNumbers,
     Nonsense,
     Deaf,
+    ShortMemory,
     RetryDown,
     QuotaLimit,
     ResetMoment,
@@ -68,6 +69,7 @@ before            an admission writes before the start of the record's last colu
 six-numbers       an answer has a sixth number
 nonsense          acquire reports a reset one too late, and the model does too
 deaf              the book is not told of acquires of cost 1
+short-memory      the book sees only the last 100 admitted calls of a subscriber
 retry-down        Retry-After is rounded down
 quota-limit       the quota is the limit
 reset-moment      the seconds until the reset are counted from moment 0
@@ -102,6 +104,7 @@ fn fault(name: &str) -> Option<Fault> {
         "six-numbers" => Fault::SixNumbers,
         "nonsense" => Fault::Nonsense,
         "deaf" => Fault::Deaf,
+        "short-memory" => Fault::ShortMemory,
         "retry-down" => Fault::RetryDown,
         "quota-limit" => Fault::QuotaLimit,
         "reset-moment" => Fault::ResetMoment,
@@ -123,7 +126,7 @@ const RESET: &str = "reset";
 /// against the book alone.
 fn places(fault: Fault) -> &'static [&'static str] {
     match fault {
-        Fault::Deaf => &[BOOK],
+        Fault::Deaf | Fault::ShortMemory => &[BOOK],
         Fault::RetryDown | Fault::QuotaLimit | Fault::ResetMoment => &[HTTP],
         Fault::RefusalTold | Fault::RetryEarly | Fault::ResetSoon => &[HTTP],
         Fault::ResetEarly => &[RESET],
@@ -156,6 +159,11 @@ impl Spoil {
     /// Whether it keeps this call from the book.
     pub fn keeps_from_the_book(self, call: &Call) -> bool {
         self.fault == Fault::Deaf && matches!(call, Call::Acquire { cost: 1, .. })
+    }
+
+    /// Whether the book sees only the last admitted calls of a subscriber.
+    pub fn shortens_the_book(self) -> bool {
+        self.fault == Fault::ShortMemory
     }
 
     /// Changes the fields for HTTP that the archive reckoned from an answer.

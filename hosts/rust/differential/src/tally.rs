@@ -63,6 +63,12 @@ pub const WIDE: Kind = Kind {
 
 const CROWDED: [&[usize]; 3] = [&[0, 8, 9, TAKEOVER], &[0], &[0]];
 
+/// Runs on one or two slots, whose holders owe throughout.
+pub const LASTING: Kind = Kind {
+    name: "lasting",
+    reach: [&[0, 8, 9], &[0], &[0]],
+};
+
 /// Document 001's case.
 pub const STEADY: Kind = Kind {
     name: "steady",

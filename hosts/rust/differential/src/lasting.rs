@@ -1,0 +1,114 @@
+//! Runs that must be remembered long: one or two slots, a large burst, and some hundreds of admissions of subscribers who owe
+//! something throughout, so that what they owe depends on calls far back.
+
+use crate::call::{ask, plan_of, Call, Terms};
+use crate::choose::{self, LAST};
+use crate::compare::Difference;
+use crate::counts::{answered, Counts, ANSWERED};
+use crate::joint::{ask_and_forget, Joint};
+use crate::rng::Rng;
+use crate::trial::Trial;
+use model::book::Book;
+use model::plan::div_up;
+use model::table::Answer;
+
+/// How many answers a book with a short memory gets wrong.
+pub type Remembered = Counts<3>;
+
+pub fn run(trial: &mut Trial) -> Result<Remembered, Difference> {
+    let found = "a book with a short memory gets these wrong";
+    let mut counts = Counts::new("lasting", found, ANSWERED);
+    while trial.more() {
+        one(trial, &mut counts)?;
+    }
+    Ok(counts)
+}
+
+fn one(trial: &mut Trial, counts: &mut Remembered) -> Result<(), Difference> {
+    let mut course = Course::new(&mut trial.rng);
+    let slots = course.resets.len();
+    let mut joint = Joint::new(trial, course.terms, slots, false);
+    let mut forgetful = Book::new(plan_of(&course.terms), slots);
+    joint.call(trial, &Call::Clear)?;
+    for _ in 0..slots as u64 * trial.rng.from(300, 900) {
+        let call = course.next(&mut trial.rng);
+        let [answer, _] = joint.call(trial, &call)?;
+        course.hear(&call, &answer);
+        let wrong = ask_and_forget(&mut forgetful, &call) != answer;
+        if matches!(answer[0], 0 | 8) {
+            counts.count(answered(&call, answer[0]), wrong);
+        }
+    }
+    for call in course.end() {
+        joint.call(trial, &call)?;
+    }
+    Ok(())
+}
+
+/// The calls of a run. Subscribers 1, 2, .. hold the slots, and one more finds none.
+struct Course {
+    terms: Terms,
+    moment: u64,
+    /// The longest step of the clock, but for what `resets` allow.
+    pace: u64,
+    /// The first moment at which each holder owes nothing, as it was told; 0 before it was admitted.
+    resets: Vec<u64>,
+}
+
+impl Course {
+    fn new(rng: &mut Rng) -> Course {
+        let terms = Terms {
+            burst: 1000 + rng.of_any_size(999_000) as u32,
+            ..choose::good_terms(rng)
+        };
+        let drain = div_up(plan_of(&terms).full(), plan_of(&terms).limit) as u64;
+        let (soon, anywhen) = (rng.below(10_000), rng.of_any_size(LAST));
+        Course {
+            terms,
+            moment: rng.pick(&[0, soon, anywhen]),
+            // from a clock that stands to one by which more would drain than is asked for
+            pace: rng.pick(&[0, drain / 4000, drain / 1000, drain / 400]),
+            resets: vec![0; rng.from(1, 2) as usize],
+        }
+    }
+
+    fn stranger(&self) -> u32 {
+        self.resets.len() as u32 + 1
+    }
+
+    /// The next call, at a moment when every holder still owes something.
+    fn next(&mut self, rng: &mut Rng) -> Call {
+        let burst = self.terms.burst;
+        if let Some(new) = self.resets.iter().position(|&reset| reset == 0) {
+            let cost = rng.from(1, burst as u64 / 2) as u32;
+            return ask(self.moment, new as u32 + 1, cost);
+        }
+        let step = rng.from(0, self.pace);
+        let latest = self.resets.iter().fold(LAST + 1, |a, &b| a.min(b)) - 1;
+        self.moment = latest.min(self.moment + step);
+        let holder = rng.from(1, self.resets.len() as u64) as u32;
+        let cost = rng.from(1, burst as u64 / 500) as u32;
+        match rng.below(16) {
+            0 => Call::Peek {
+                moment: self.moment,
+                subscriber: holder,
+            },
+            1 => ask(self.moment, self.stranger(), cost),
+            2 => ask(self.moment, holder, burst),
+            _ => ask(self.moment, holder, cost),
+        }
+    }
+
+    fn hear(&mut self, call: &Call, answer: &Answer) {
+        if let (Call::Acquire { subscriber, .. }, 0) = (call, answer[0]) {
+            self.resets[*subscriber as usize - 1] = answer[3] as u64;
+        }
+    }
+
+    /// All ask for the whole burst when nobody owes anything any more, first the one without a slot.
+    fn end(&self) -> impl Iterator<Item = Call> + '_ {
+        let rested = self.resets.iter().fold(0, |a, &b| a.max(b));
+        let subscribers = (1..=self.stranger()).rev();
+        subscribers.map(move |subscriber| ask(rested, subscriber, self.terms.burst))
+    }
+}
