@@ -3,18 +3,9 @@
 use crate::call::{Answer, Ask, Plan};
 use railcadence::numbers;
 
-pub fn gcra_acquire(plan: &Plan, ids: &mut [u32], tats: &mut [u64], ask: &Ask) -> Answer {
-    let mut out = [0; 5];
-    numbers::gcra_acquire(
-        plan,
-        ids,
-        tats,
-        ask.moment,
-        ask.subscriber,
-        ask.cost,
-        &mut out,
-    );
-    out
+pub fn gcra_acquire(plan: &Plan, ids: &mut [u32], tats: &mut [u64], ask: &Ask, out: &mut Answer) {
+    let (moment, subscriber, cost) = (ask.moment, ask.subscriber, ask.cost);
+    numbers::gcra_acquire(plan, ids, tats, moment, subscriber, cost, out);
 }
 
 pub fn gcra_clear(ids: &mut [u32], tats: &mut [u64]) -> Answer {
@@ -29,11 +20,10 @@ pub fn token_bucket_acquire(
     levels: &mut [u64],
     lasts: &mut [u64],
     ask: &Ask,
-) -> Answer {
-    let mut out = [0; 5];
+    out: &mut Answer,
+) {
     let (moment, subscriber, cost) = (ask.moment, ask.subscriber, ask.cost);
-    numbers::token_bucket_acquire(plan, ids, levels, lasts, moment, subscriber, cost, &mut out);
-    out
+    numbers::token_bucket_acquire(plan, ids, levels, lasts, moment, subscriber, cost, out);
 }
 
 pub fn token_bucket_clear(ids: &mut [u32], levels: &mut [u64], lasts: &mut [u64]) -> Answer {

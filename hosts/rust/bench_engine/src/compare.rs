@@ -64,9 +64,9 @@ fn ask_all(
     tables: &mut [Table; 3],
     ask: &Ask,
 ) -> Result<Answer, String> {
-    let mut answers = [[0; 5]; 3];
+    let mut answers = [[u64::MAX; 5]; 3]; // so that a number that is not written shows
     for ((contender, table), answer) in contenders.iter().zip(tables).zip(&mut answers) {
-        *answer = (contender.acquire)(&PLAN, table, ask);
+        (contender.acquire)(&PLAN, table, ask, answer);
     }
     if answers != [answers[0]; 3] {
         let all = answers.map(|answer| format!("{answer:?}")).join(", ");

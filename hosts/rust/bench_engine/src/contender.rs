@@ -1,5 +1,5 @@
 //! Who is timed: of each engine the proved one, and the plain one with either search. All are called alike, by a pointer to
-//! the function, over columns of the same kinds.
+//! the function, over columns of the same kinds, and write their five numbers where they are told.
 
 use crate::archive;
 use crate::call::{Answer, Ask, Plan};
@@ -24,8 +24,10 @@ impl Table {
     }
 }
 
+pub type Acquire = fn(&Plan, &mut Table, &Ask, &mut Answer);
+
 pub struct Contender {
-    pub acquire: fn(&Plan, &mut Table, &Ask) -> Answer,
+    pub acquire: Acquire,
     /// Makes every column all zeros, and answers 0.
     pub clear: fn(&mut Table) -> Answer,
 }
@@ -69,20 +71,20 @@ pub const ENGINES: [Engine; 2] = [
         has_lasts: false,
         contenders: [
             Contender {
-                acquire: |plan, t, ask| {
-                    archive::gcra_acquire(plan, &mut t.ids, &mut t.records, ask)
+                acquire: |plan, t, ask, out| {
+                    archive::gcra_acquire(plan, &mut t.ids, &mut t.records, ask, out)
                 },
                 clear: |t| archive::gcra_clear(&mut t.ids, &mut t.records),
             },
             Contender {
-                acquire: |plan, t, ask| {
-                    gcra::acquire::<Index>(plan, &mut t.ids, &mut t.records, ask)
+                acquire: |plan, t, ask, out| {
+                    gcra::acquire::<Index>(plan, &mut t.ids, &mut t.records, ask, out)
                 },
                 clear: fill_with_zeros,
             },
             Contender {
-                acquire: |plan, t, ask| {
-                    gcra::acquire::<Position>(plan, &mut t.ids, &mut t.records, ask)
+                acquire: |plan, t, ask, out| {
+                    gcra::acquire::<Position>(plan, &mut t.ids, &mut t.records, ask, out)
                 },
                 clear: fill_with_zeros,
             },
@@ -93,23 +95,23 @@ pub const ENGINES: [Engine; 2] = [
         has_lasts: true,
         contenders: [
             Contender {
-                acquire: |plan, t, ask| {
+                acquire: |plan, t, ask, out| {
                     let (ids, levels, lasts) = (&mut t.ids, &mut t.records, &mut t.lasts);
-                    archive::token_bucket_acquire(plan, ids, levels, lasts, ask)
+                    archive::token_bucket_acquire(plan, ids, levels, lasts, ask, out)
                 },
                 clear: |t| archive::token_bucket_clear(&mut t.ids, &mut t.records, &mut t.lasts),
             },
             Contender {
-                acquire: |plan, t, ask| {
+                acquire: |plan, t, ask, out| {
                     let (ids, levels, lasts) = (&mut t.ids, &mut t.records, &mut t.lasts);
-                    token_bucket::acquire::<Index>(plan, ids, levels, lasts, ask)
+                    token_bucket::acquire::<Index>(plan, ids, levels, lasts, ask, out)
                 },
                 clear: fill_with_zeros,
             },
             Contender {
-                acquire: |plan, t, ask| {
+                acquire: |plan, t, ask, out| {
                     let (ids, levels, lasts) = (&mut t.ids, &mut t.records, &mut t.lasts);
-                    token_bucket::acquire::<Position>(plan, ids, levels, lasts, ask)
+                    token_bucket::acquire::<Position>(plan, ids, levels, lasts, ask, out)
                 },
                 clear: fill_with_zeros,
             },

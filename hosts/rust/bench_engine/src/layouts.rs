@@ -1,5 +1,6 @@
 //! The rows of several builds, which differ in where the linker puts each function, put together.
 
+use crate::load::asked;
 use crate::row::Row;
 use crate::time::sorted;
 use std::process::{Command, Stdio};
@@ -25,8 +26,8 @@ pub fn run(builds: &[String], words: &[String]) -> Result<Vec<Vec<Row>>, String>
 
 pub fn print(builds: &[Vec<Row>]) {
     println!(
-        "{:16} {:13} {:>22} {:>22} {:>22} {:>20} {:>20}   answered",
-        "load", "engine", "proved", "index loop", "position", "/ index loop", "/ position"
+        "{:16} {:13} {:>22} {:>22} {:>22} {:>20} {:>5} {:>20}   answered",
+        "load", "engine", "proved", "index loop", "position", "/ index loop", "asked", "/ position"
     );
     for place in 0..builds.first().map_or(0, Vec::len) {
         let rows: Vec<&Row> = builds.iter().filter_map(|rows| rows.get(place)).collect();
@@ -48,8 +49,9 @@ fn print_row(rows: &[&Row]) {
     ];
     let (load, engine, answered) = (&rows[0].load, &rows[0].engine, &rows[0].answered);
     let times = times.map(|times| cell(&times, 0)).join(" ");
-    let ratios = ratios.map(|ratios| cell(&ratios, 2)).join(" ");
-    println!("{load:16} {engine:13} {times} {ratios}   {answered}");
+    let [to_index, to_position] = ratios.map(|ratios| cell(&ratios, 2));
+    let asked = asked(load);
+    println!("{load:16} {engine:13} {times} {to_index} {asked:>5} {to_position}   {answered}");
 }
 
 /// The median, the least and the most of some numbers in order.

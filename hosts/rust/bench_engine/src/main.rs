@@ -42,6 +42,15 @@ impl Options {
         let text = format!("--asks {asks} --rounds {rounds} --seed {seed}");
         text.split(' ').map(String::from).collect()
     }
+
+    /// What is asked of every contender.
+    fn terms(&self) -> String {
+        format!(
+            "{} units in {} ms, burst {}; 4096 slots, but 'shops' has 300, '1024' so many and 'most' 65535; {} asks of each load, \
+             a tenth of it where it is 'most'; seed {}",
+            PLAN.limit, PLAN.period, PLAN.burst, self.asks, self.seed
+        )
+    }
 }
 
 fn read(mut words: impl Iterator<Item = String>) -> Option<Options> {
@@ -88,11 +97,15 @@ fn measure(options: &Options, engine: &Engine, kind: &Kind) -> Result<Row, Strin
     })
 }
 
-fn measure_all(options: &Options) -> Result<(), String> {
-    for (kind, engine) in KINDS
+/// Every load with every engine.
+fn pairs() -> impl Iterator<Item = (&'static Kind, &'static Engine)> {
+    KINDS
         .iter()
-        .flat_map(|k| ENGINES.iter().map(move |e| (k, e)))
-    {
+        .flat_map(|kind| ENGINES.iter().map(move |engine| (kind, engine)))
+}
+
+fn measure_all(options: &Options) -> Result<(), String> {
+    for (kind, engine) in pairs() {
         println!("{}", measure(options, engine, kind)?);
     }
     Ok(())
@@ -100,17 +113,15 @@ fn measure_all(options: &Options) -> Result<(), String> {
 
 fn run_builds(options: &Options) -> Result<(), String> {
     println!(
-        "{} units in {} ms, burst {}; 4096 slots and {} asks of each load, or where it is 'most' 65535 slots and a tenth of the \
-         asks; seed {}, {} rounds in each of {} builds",
-        PLAN.limit,
-        PLAN.period,
-        PLAN.burst,
-        options.asks,
-        options.seed,
+        "{}; {} rounds in each of {} builds",
+        options.terms(),
         options.rounds,
         options.builds.len()
     );
-    println!("ns per acquire, and proved divided by plain: the median of the builds (the least to the most)");
+    println!(
+        "ns per acquire, and proved divided by plain: the median of the builds (the least to the most); \
+         'asked' is what / index loop is to be at most"
+    );
     let rows = layouts::run(&options.builds, &options.words())?;
     layouts::print(&rows);
     Ok(())

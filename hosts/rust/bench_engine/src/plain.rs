@@ -22,7 +22,7 @@ fn check(plan: &Plan, slots: Option<usize>, ask: &Ask) -> Option<u64> {
     {
         return Some(1);
     }
-    if !slots.is_some_and(|slots| 1 <= slots && slots <= MOST_SLOTS) {
+    if !slots.is_some_and(|slots| (1..=MOST_SLOTS).contains(&slots)) {
         return Some(2);
     }
     if ask.moment > LAST_MOMENT {
@@ -37,8 +37,8 @@ fn check(plan: &Plan, slots: Option<usize>, ask: &Ask) -> Option<u64> {
     (ask.cost > plan.burst).then_some(6)
 }
 
-fn refused(number: u64, ask: &Ask) -> Answer {
-    [number, ask.subscriber as u64, 0, 0, 0]
+fn refuse(number: u64, ask: &Ask, out: &mut Answer) {
+    *out = [number, ask.subscriber as u64, 0, 0, 0];
 }
 
 fn full(plan: &Plan) -> u64 {
@@ -49,18 +49,19 @@ fn price(plan: &Plan, cost: u32) -> u64 {
     plan.period as u64 * cost as u64
 }
 
-fn admitted(plan: &Plan, ask: &Ask, debt: u64) -> Answer {
-    answer(0, plan, ask, debt, 0)
+fn admit(plan: &Plan, ask: &Ask, debt: u64, out: &mut Answer) {
+    answer(0, plan, ask, debt, 0, out);
 }
 
 /// What must drain before the cost fits is waited for.
-fn throttled(plan: &Plan, ask: &Ask, debt: u64) -> Answer {
+fn throttle(plan: &Plan, ask: &Ask, debt: u64, out: &mut Answer) {
     let excess = debt + price(plan, ask.cost) - full(plan);
-    answer(8, plan, ask, debt, excess.div_ceil(plan.limit as u64))
+    let wait = excess.div_ceil(plan.limit as u64);
+    answer(8, plan, ask, debt, wait, out);
 }
 
-fn answer(number: u64, plan: &Plan, ask: &Ask, debt: u64, wait: u64) -> Answer {
+fn answer(number: u64, plan: &Plan, ask: &Ask, debt: u64, wait: u64, out: &mut Answer) {
     let left = (full(plan) - debt) / plan.period as u64;
     let reset = ask.moment + debt.div_ceil(plan.limit as u64);
-    [number, ask.subscriber as u64, left, reset, wait]
+    *out = [number, ask.subscriber as u64, left, reset, wait];
 }

@@ -1,8 +1,9 @@
 //! The timed rounds, in which the contenders take turns.
 
+use crate::call::{Ask, Plan};
 use crate::clock;
 use crate::compare::Agreed;
-use crate::contender::{Contender, Engine, Table};
+use crate::contender::{Acquire, Contender, Engine, Table};
 use crate::load::{Load, PLAN};
 use std::hint::black_box;
 
@@ -35,16 +36,19 @@ pub fn sorted(mut times: Vec<f64>) -> Vec<f64> {
 fn round(contender: &Contender, table: &mut Table, load: &Load, start: &Table) -> f64 {
     let plan = black_box(PLAN);
     (contender.clear)(table);
-    for ask in &load.warm_up {
-        (contender.acquire)(&plan, table, ask);
-    }
+    run_asks(contender.acquire, &plan, table, &load.warm_up);
     if load.warm_up.is_empty() {
         table.copy_from(start);
     }
-    let acquire = black_box(contender.acquire);
     let begun = clock::now();
-    for ask in &load.asks {
-        black_box(acquire(&plan, table, ask));
-    }
+    run_asks(contender.acquire, &plan, table, &load.asks);
     (clock::now() - begun) / load.asks.len() as f64
+}
+
+fn run_asks(acquire: Acquire, plan: &Plan, table: &mut Table, asks: &[Ask]) {
+    let (acquire, mut out) = (black_box(acquire), [0; 5]);
+    for ask in asks {
+        acquire(plan, table, ask, &mut out);
+        black_box(&mut out);
+    }
 }

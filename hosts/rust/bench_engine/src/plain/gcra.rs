@@ -1,31 +1,37 @@
 //! The paced engine.
 
 use super::search::Search;
-use super::{admitted, check, full, price, refused, throttled};
+use super::{admit, check, full, price, refuse, throttle};
 use crate::call::{Answer, Ask, Plan};
 
-pub fn acquire<S: Search>(plan: &Plan, ids: &mut [u32], tats: &mut [u64], ask: &Ask) -> Answer {
+pub fn acquire<S: Search>(
+    plan: &Plan,
+    ids: &mut [u32],
+    tats: &mut [u64],
+    ask: &Ask,
+    out: &mut Answer,
+) {
     let slots = (ids.len() == tats.len()).then_some(ids.len());
     if let Some(number) = check(plan, slots, ask) {
-        return refused(number, ask);
+        return refuse(number, ask, out);
     }
     let now = ask.moment * plan.limit as u64;
     let (slot, tat) = match S::own(ids, ask.subscriber) {
         Some(own) => (own, tats[own]),
         None => match S::free_tat(ids, tats, now) {
             Some(free) => (free, 0),
-            None => return refused(9, ask),
+            None => return refuse(9, ask, out),
         },
     };
     if tat > now + full(plan) {
-        return refused(7, ask);
+        return refuse(7, ask, out);
     }
     let tat = tat.max(now);
     let next = tat + price(plan, ask.cost);
     if next > now + full(plan) {
-        return throttled(plan, ask, tat - now);
+        return throttle(plan, ask, tat - now, out);
     }
     ids[slot] = ask.subscriber;
     tats[slot] = next;
-    admitted(plan, ask, next - now)
+    admit(plan, ask, next - now, out);
 }

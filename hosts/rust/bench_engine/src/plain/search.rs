@@ -16,6 +16,7 @@ pub trait Search {
 
 pub struct Index;
 
+#[allow(clippy::needless_range_loop, clippy::manual_find)] // these loops are what is measured
 impl Search for Index {
     fn own(ids: &[u32], subscriber: u32) -> Option<usize> {
         for i in 0..ids.len() {

@@ -1,7 +1,7 @@
 //! The bucket engine.
 
 use super::search::Search;
-use super::{admitted, check, full, price, refused, throttled};
+use super::{admit, check, full, price, refuse, throttle};
 use crate::call::{Answer, Ask, Plan};
 
 pub fn acquire<S: Search>(
@@ -10,10 +10,11 @@ pub fn acquire<S: Search>(
     levels: &mut [u64],
     lasts: &mut [u64],
     ask: &Ask,
-) -> Answer {
+    out: &mut Answer,
+) {
     let equal = ids.len() == levels.len() && ids.len() == lasts.len();
     if let Some(number) = check(plan, equal.then_some(ids.len()), ask) {
-        return refused(number, ask);
+        return refuse(number, ask, out);
     }
     let (limit, full) = (plan.limit as u64, full(plan));
     let is_full = |level, last| {
@@ -23,19 +24,19 @@ pub fn acquire<S: Search>(
         Some(own) => (own, levels[own], lasts[own]),
         None => match S::free_bucket(ids, levels, lasts, is_full) {
             Some(free) => (free, full, ask.moment),
-            None => return refused(9, ask),
+            None => return refuse(9, ask, out),
         },
     };
     if level > full || last > ask.moment {
-        return refused(7, ask);
+        return refuse(7, ask, out);
     }
     let level = full.min(level + (ask.moment - last) * limit);
     let price = price(plan, ask.cost);
     if level < price {
-        return throttled(plan, ask, full - level);
+        return throttle(plan, ask, full - level, out);
     }
     ids[slot] = ask.subscriber;
     levels[slot] = level - price;
     lasts[slot] = ask.moment;
-    admitted(plan, ask, full - (level - price))
+    admit(plan, ask, full - (level - price), out);
 }
