@@ -5,6 +5,7 @@ mod call;
 mod clock;
 mod compare;
 mod contender;
+mod count;
 #[path = "../../plain/src/draws.rs"]
 mod draws;
 mod layouts;
@@ -20,18 +21,23 @@ use std::env;
 use std::process::ExitCode;
 
 const USAGE: &str = "\
-bench_engine [--asks N] [--rounds N] [--seed N] [BUILD..]
+bench_engine [--asks N] [--rounds N] [--seed N] [--count | BUILD..]
   Asks the proved archive and two plain limiters the same, in turns, and compares all answers and the final tables.
   --asks N    how many asks of each load (default 50000), and a tenth of it on 65535 slots
   --rounds N  how often each is timed (default 5, the least)
   --seed N    draws other asks (default 1)
+  --count     has valgrind count the instructions, in place of a comparison and times
+  --only N    asks one of them alone, once: what --count runs under valgrind
   BUILD..     runs these builds of itself in its place, and prints a table of what they report
-Ends with 0, with 1 if answers or tables differ, and with 2 if not called as above.";
+Ends with 0, with 1 if answers or tables differ or something cannot be run, and with 2 if not called as above.";
 
 struct Options {
     asks: usize,
     rounds: usize,
     seed: u64,
+    count: bool,
+    /// The place of the only contender among all, counted by loads, in each by engines, and in each by contenders.
+    only: Option<usize>,
     builds: Vec<String>,
 }
 
@@ -58,9 +64,15 @@ fn read(mut words: impl Iterator<Item = String>) -> Option<Options> {
         asks: 50_000,
         rounds: 5,
         seed: 1,
+        count: false,
+        only: None,
         builds: Vec::new(),
     };
     while let Some(word) = words.next() {
+        if word == "--count" {
+            options.count = true;
+            continue;
+        }
         if !word.starts_with("--") {
             options.builds.push(word);
             continue;
@@ -70,6 +82,7 @@ fn read(mut words: impl Iterator<Item = String>) -> Option<Options> {
             "--asks" => options.asks = number as usize,
             "--rounds" => options.rounds = number as usize,
             "--seed" => options.seed = number,
+            "--only" => options.only = Some(number as usize),
             _ => return None,
         }
     }
@@ -132,10 +145,11 @@ fn main() -> ExitCode {
         eprintln!("{USAGE}");
         return ExitCode::from(2);
     };
-    let done = if options.builds.is_empty() {
-        measure_all(&options)
-    } else {
-        run_builds(&options)
+    let done = match options.only {
+        Some(place) => count::ask_one(&options, place),
+        None if options.count => count::print(&options),
+        None if options.builds.is_empty() => measure_all(&options),
+        None => run_builds(&options),
     };
     match done {
         Ok(()) => ExitCode::SUCCESS,

@@ -45,7 +45,9 @@ fn round(contender: &Contender, table: &mut Table, load: &Load, start: &Table) -
     (clock::now() - begun) / load.asks.len() as f64
 }
 
-fn run_asks(acquire: Acquire, plan: &Plan, table: &mut Table, asks: &[Ask]) {
+/// A function of its own, by whose name valgrind finds what it is to count.
+#[inline(never)]
+pub fn run_asks(acquire: Acquire, plan: &Plan, table: &mut Table, asks: &[Ask]) {
     let (acquire, mut out) = (black_box(acquire), [0; 5]);
     for ask in asks {
         acquire(plan, table, ask, &mut out);
