@@ -81,9 +81,17 @@ sets-next l at s i h =
     sym (ap (λ (v : List ℕ). sets l at v) (ap (λ (k : ℕ). take k s) (add-one i) ∙ take-suc s i 0 h) ∙ sets-append l at (take i s) (getD s i 0 ∷ [])
     ∙ ap (λ (k : ℕ). set (sets l at (take i s)) k (getD s i 0)) (ap (λ (k : ℕ). at + k) (length-take-le i s (omega arith))))
 
--- a byte written before bytes that were written
+-- bytes written before bytes that were written
+byte-before : (l : List ℕ) (i j v : ℕ) (s : List ℕ) → i < j → sets (set l i v) j s ≡ set (sets l j s) i v
+byte-before l i j v [] h = refl
+byte-before l i j v (x ∷ s) h =
+    ap (λ (m : List ℕ). sets m (suc j) s) (set-comm l i j v x λ e. absurd (omega arith))
+    ∙ byte-before (set l j x) i (suc j) v s (omega arith)
+
 pub sets-before :
-    (l : List ℕ) (i j v : ℕ) (s : List ℕ) → i < j → sets (set l i v) j s ≡ set (sets l j s) i v
-sets-before l i j v [] h = refl
-sets-before l i j v (x ∷ s) h =
-    ap (λ (m : List ℕ). sets m (suc j) s) (set-comm l i j v x λ e. absurd (omega arith)) ∙ sets-before (set l j x) i (suc j) v s (omega arith)
+    (l : List ℕ) (i : ℕ) (a b : List ℕ) → sets (sets l (i + length a) b) i a ≡ sets l i (a ++ b)
+sets-before l i [] b = ap (λ (k : ℕ). sets l k b) (omega arith)
+sets-before l i (x ∷ a) b =
+    let same : i + suc (length a) ≡ suc i + length a = omega arith in
+    let moved = sym (byte-before l i (i + suc (length a)) x b (omega arith)) ∙ ap (λ (k : ℕ). sets (set l i x) k b) same in
+    ap (λ (m : List ℕ). sets m (suc i) a) moved ∙ sets-before (set l i x) (suc i) a b

@@ -1,62 +1,59 @@
--- A number written last digit first: the digits after a place are written, and those of what is left stand before it.
+-- A number written two digits at a time, the last two first: the digits after a place are written, and those of what is left go before it.
 -- Assumes nothing.
 use mathlib.Core.Path.{_≡_, refl, sym, ap, _∙_}
-use mathlib.Core.List.{List, [], _∷_, _++_, append-nil}
-use Prim.Native.Nat.{ℕ, suc, _+_, _-_, _/_, _%_, _^_, _≤_, _<_}
-use native.Mathlib.Numerals.{add-one}
+use mathlib.Core.List.{List, [], _∷_, _++_, append-assoc, append-nil}
+use Prim.Native.Nat.{ℕ, _+_, _-_, _/_, _%_, _^_, _≤_, _<_}
 use native.Mathlib.Omega.{arith}
-use lib.ListN.{length, set, length-append}
-use lib.Seq.{sets, length-sets, append-snoc}
+use lib.ListN.{length, length-append}
+use lib.Seq.{sets, length-sets}
 use Rattle.tsv.specs.Decimal.{digit, digits}
-use Rattle.tsv.proofs.Digits.{digits-small, digits-step, digits-least, digits-one, digits-more}
+use Rattle.tsv.proofs.Digits.{pairOf, digits-pair}
 use Rattle.tsv.proofs.Scanning.{sets-before}
 
 pub record Rest (l : List ℕ) (at n : ℕ) (out : List ℕ) (rest place : ℕ) : Type 0 where
   pub written : List ℕ
   pub digits-all : digits rest ++ written ≡ digits n
-  pub out-is : out ≡ sets l (place + 1) written
-  pub place-is : place + 1 ≡ at + length (digits rest)
+  pub out-is : out ≡ sets l place written
+  pub place-is : place ≡ at + length (digits rest)
   pub small : rest < 2 ^ 64
 
 pub rest-all :
-    (l : List ℕ) (at n place : ℕ) → n < 2 ^ 64 → place + 1 ≡ at + length (digits n) → Rest l at n l n place
+    (l : List ℕ) (at n place : ℕ) → n < 2 ^ 64 → place ≡ at + length (digits n) → Rest l at n l n place
 rest-all l at n place h e =
     record { written = []; digits-all = append-nil (digits n); out-is = refl; place-is = e; small = h }
 
 module _ {l : List ℕ} {at n : ℕ} {out : List ℕ} {rest place : ℕ} (r : Rest l at n out rest place) where
-  pub rest-length : length out ≡ length l
-  rest-length = ap (λ (s : List ℕ). length s) (r .out-is) ∙ length-sets l (place + 1) (r .written)
-
-  pub rest-within : place < at + length (digits n)
-  rest-within =
+  -- what is left ends within the output, where the whole does
+  pub rest-room : at + length (digits n) ≤ length l → place ≤ length out
+  rest-room room =
+      let same = ap (λ (s : List ℕ). length s) (r .out-is) ∙ length-sets l place (r .written) in
       let all = sym (length-append (digits rest) (r .written)) ∙ ap (λ (s : List ℕ). length s) (r .digits-all) in
       omega (arith, r .place-is)
 
-  -- the last digit of what is left, before those that are written
-  one-more : set out place (digit (rest % 10)) ≡ sets l place (digit (rest % 10) ∷ r .written)
-  one-more =
-      ap (λ (s : List ℕ). set s place (digit (rest % 10))) (r .out-is ∙ ap (λ (k : ℕ). sets l k (r .written)) (add-one place))
-      ∙ sym (sets-before l place (suc place) (digit (rest % 10)) (r .written) (omega arith))
+  module _ (h : 100 ≤ rest) where
+    pub two-more : place ≡ at + length (digits (rest / 100)) + 2
+    two-more =
+        let pair = ap (λ (s : List ℕ). length s) (digits-pair rest h (r .small)) in
+        omega (arith, r .place-is, pair, length-append (digits (rest / 100)) (pairOf (rest % 100)))
 
-  pub rest-next : 10 ≤ rest → Rest l at n (set out place (digit (rest % 10))) (rest / 10) (place - 1)
-  rest-next h =
-      let more = digits-more rest h (r .small) in
-      let least = digits-least (rest / 10) in
-      record {
-        written = digit (rest % 10) ∷ r .written;
-        digits-all =
-            sym (append-snoc (digits (rest / 10)) (digit (rest % 10)) (r .written))
-            ∙ sym (ap (λ (s : List ℕ). s ++ r .written) (digits-step rest h (r .small))) ∙ r .digits-all;
-        out-is = one-more ∙ ap (λ (k : ℕ). sets l k (digit (rest % 10) ∷ r .written)) (omega (arith, r .place-is));
-        place-is = omega (arith, r .place-is);
-        small = omega (arith, r .small);
-      }
+    pub rest-next :
+        {next : List ℕ} → next ≡ sets out (place - 2) (pairOf (rest % 100)) → Rest l at n next (rest / 100) (place - 2)
+    rest-next e =
+        record {
+          written = digit (rest % 100 / 10) ∷ digit (rest % 100 % 10) ∷ r .written;
+          digits-all =
+              sym (append-assoc (digits (rest / 100)) (pairOf (rest % 100)) (r .written))
+              ∙ sym (ap (λ (s : List ℕ). s ++ r .written) (digits-pair rest h (r .small))) ∙ r .digits-all;
+          out-is =
+              e ∙ ap (λ (s : List ℕ). sets s (place - 2) (pairOf (rest % 100)))
+              (r .out-is ∙ ap (λ (k : ℕ). sets l k (r .written)) {x = place} {y = place - 2 + 2} (omega (arith, two-more)))
+              ∙ sets-before l (place - 2) (pairOf (rest % 100)) (r .written);
+          place-is = omega (arith, two-more);
+          small = omega (arith, r .small);
+        }
 
-  pub rest-done : rest < 10 → set out place (digit (rest % 10)) ≡ sets l at (digits n)
-  rest-done h =
-      let one = digits-one rest h in
-      let same : rest % 10 ≡ rest = omega arith in
-      one-more
-      ∙ ap (λ (k : ℕ). sets l k (digit (rest % 10) ∷ r .written)) {x = place} {y = at} (omega (arith, r .place-is))
-      ∙ ap (λ (s : List ℕ). sets l at s)
-      (ap (λ (d : ℕ). digit d ∷ r .written) same ∙ sym (ap (λ (s : List ℕ). s ++ r .written) (digits-small rest h)) ∙ r .digits-all)
+  -- what is left, written in front
+  pub rest-done : {next : List ℕ} → next ≡ sets out at (digits rest) → next ≡ sets l at (digits n)
+  rest-done e =
+      e ∙ ap (λ (s : List ℕ). sets s at (digits rest)) (r .out-is ∙ ap (λ (k : ℕ). sets l k (r .written)) (r .place-is))
+      ∙ sets-before l at (digits rest) (r .written) ∙ ap (λ (s : List ℕ). sets l at s) (r .digits-all)

@@ -1,9 +1,10 @@
 // A number in decimal digits, without sign or leading zero (document 01, 'The tabbed text').
 ghost use mathlib.Core.Path.{_≡_};
-ghost use Prim.Native.Nat.{_+_, _≤_};
+ghost use mathlib.Core.List.{[], _∷_};
+ghost use Prim.Native.Nat.{_+_, _/_, _%_, _<_, _≤_};
 ghost use lib.ListN.{length};
 ghost use lib.Seq.{sets};
-ghost use Rattle.tsv.specs.Decimal.{appended, onwards, decimal, digits, cell};
+ghost use Rattle.tsv.specs.Decimal.{appended, onwards, decimal, digit, digits, cell};
 
 pub enum Number {
     Value(u64),
@@ -64,36 +65,67 @@ pub fn read(text: &[u8], most: u64) -> Number
     value(text, most)
 }
 
-// How many digits a number has.
+// How many digits a number has: as many as the zeros of the first power of ten above it. 20 hold every number of 64 bits.
 fn width(n: u64) -> usize
     ensures { λ r. ⌜ r ≡ length (digits n) ⌝ }
 {
-    let mut rest = n;
+    let mut bound = 10;
     let mut width = 1;
     loop {
-        if rest < 10 {
+        if n < bound {
             break width;
         }
-        rest = rest / 10;
         width += 1;
+        if width == 20 {
+            break width;
+        }
+        bound = 10 * bound;
     }
 }
 
-// Writes a number from `at` on, last digit first, and says where the next byte goes.
+// Writes the two digits of a number below 100, also where the first is 0.
+fn put_pair(out: &mut [u8], at: usize, pair: u64)
+    requires { ⌜ pair < 100 ⌝ }
+    requires { ⌜ at + 2 ≤ length (now out) ⌝ }
+    ensures { λ r. ⌜ now (out .exit) ≡ sets (now (out .entry)) at (digit (pair / 10) ∷ digit (pair % 10) ∷ []) ⌝ }
+{
+    out[at] = b'0' + (pair / 10) as u8;
+    out[at + 1] = b'0' + (pair % 10) as u8;
+}
+
+// Writes a number below 100, and says where the next byte goes.
+fn put_short(out: &mut [u8], at: usize, n: u64) -> usize
+    requires { ⌜ n < 100 ⌝ }
+    requires { ⌜ at + length (digits n) ≤ length (now out) ⌝ }
+    ensures { λ r. ⌜ (r ≡ at + length (digits n)) × (now (out .exit) ≡ sets (now (out .entry)) at (digits n)) ⌝ }
+{
+    if n < 10 {
+        out[at] = b'0' + n as u8;
+        return at + 1;
+    }
+    put_pair(out, at, n);
+    at + 2
+}
+
+// Writes a number from `at` on, its last two digits first, and says where the next byte goes.
 fn put_digits(out: &mut [u8], at: usize, n: u64) -> usize
     requires { ⌜ at + length (digits n) ≤ length (now out) ⌝ }
     ensures { λ r. ⌜ (r ≡ at + length (digits n)) × (now (out .exit) ≡ sets (now (out .entry)) at (digits n)) ⌝ }
 {
+    if n < 10 {
+        return put_short(out, at, n);
+    }
     let end = at + width(n);
     let mut rest = n;
-    let mut place = end - 1;
+    let mut place = end;
     loop {
-        out[place] = b'0' + (rest % 10) as u8;
-        if rest < 10 {
+        if rest < 100 {
+            put_short(out, at, rest);
             break end;
         }
-        rest = rest / 10;
-        place -= 1;
+        place -= 2;
+        put_pair(out, place, rest % 100);
+        rest = rest / 100;
     }
 }
 
