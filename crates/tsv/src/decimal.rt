@@ -11,7 +11,7 @@ pub enum Number {
     Unreadable,
 }
 
-// One more digit after a value.
+// One more digit after a value. A tenth of the most is the same for each digit, and is reckoned once for a number.
 fn appended(most: u64, value: u64, byte: u8) -> Number
     ensures { λ r. ⌜ r ≡ appended most value byte ⌝ }
 {
@@ -22,13 +22,14 @@ fn appended(most: u64, value: u64, byte: u8) -> Number
         return Number::Unreadable;
     }
     let digit = (byte - b'0') as u64;
-    if most < digit {
+    if most / 10 < value {
         return Number::Unreadable;
     }
-    if (most - digit) / 10 < value {
+    let tens = 10 * value;
+    if most - tens < digit {
         return Number::Unreadable;
     }
-    Number::Value(10 * value + digit)
+    Number::Value(tens + digit)
 }
 
 // The digits as a number, after a first digit that is not 0.
