@@ -1,6 +1,7 @@
 // The Generic Cell Rate Algorithm on one record (document 01's paced engine). The record is the TAT: the moment, in
 // ticks, at which nothing is owed any more.
 ghost use mathlib.Core.Path.{_≡_};
+ghost use mathlib.Core.Bool.{false};
 ghost use Prim.Native.Nat.{ℕ};
 ghost use Rattle.rate.specs.declared.plan.Plan.{Plan};
 ghost use Rattle.rate.specs.Answer.{verdictOf};
@@ -54,6 +55,14 @@ pub fn is_free(plan: Plan, now: Millis, tat: Ticks) -> bool
 {
     let drained = plan.ticks_in(now);
     tat.0 <= drained.0
+}
+
+// Whether the record may owe nothing: if not, it is not free. It is exact of a sound record, and no branch is made of it.
+pub fn may_be_free(plan: Plan, now: Millis, tat: Ticks) -> bool
+    requires { ⌜ InForce plan (now .0) ⌝ }
+    ensures { λ r. ⌜ (r ≡ false → gcra .free plan (now .0) tat ≡ false) ⌝ }
+{
+    tat.may_be_at_most(plan.ticks_in(now))
 }
 
 // The record after a cost was admitted.

@@ -1,6 +1,7 @@
 // The token bucket on one record (document 01's bucket engine). The record is the level that an admission left, and
 // the moment of that admission; since then `limit` ticks a millisecond have come back, up to the capacity.
 ghost use mathlib.Core.Path.{_≡_};
+ghost use mathlib.Core.Bool.{false};
 ghost use Rattle.rate.specs.Answer.{verdictOf};
 ghost use Rattle.rate.specs.Decision.{Admitting};
 ghost use Rattle.rate.specs.Engine.{judge, report};
@@ -12,6 +13,7 @@ use rate::decision;
 use rate::plan::Plan;
 use rate::units::Millis;
 use rate::units::Ticks;
+use std::num;
 
 pub struct Bucket {
     pub level: Ticks,
@@ -82,6 +84,20 @@ pub fn is_free(plan: Plan, now: Millis, bucket: Bucket) -> bool
     }
     let owed = backlog(plan, now, bucket);
     owed.0 == 0
+}
+
+// Whether the record may owe nothing: if not, it is not free. It is exact of a sound record, and no branch is made of it:
+// what the level lacks of a full bucket may be at most what has come back since.
+pub fn may_be_free(plan: Plan, now: Millis, bucket: Bucket) -> bool
+    requires { ⌜ InForce plan (now .0) ⌝ }
+    ensures { λ r. ⌜ (r ≡ false → tokenBucket .free plan (now .0) bucket ≡ false) ⌝ }
+{
+    let level = bucket.level;
+    let capacity = plan.capacity();
+    let last = bucket.last;
+    let refill = plan.ticks_in(now.since(last));
+    let lacking = Ticks(num::wrapping_sub_u64(capacity.0, level.0));
+    lacking.may_be_at_most(refill)
 }
 
 // The record after a cost was admitted.
