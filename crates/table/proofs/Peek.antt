@@ -23,14 +23,14 @@ use Rattle.rate.proofs.Look.{look-is-free-ask, look-after, throttled-left, thro
 use Rattle.table.specs.Request.{Query, Request}
 use Rattle.table.specs.Checks.{queryCheck, guard}
 use Rattle.table.specs.Rule.{ruleOf}
-use Rattle.table.specs.Slots.{Columns, carries, own}
+use Rattle.table.specs.Slots.{Columns, carries, own, NoneBelow}
 use Rattle.table.specs.Calls.{Step, acquire, held, peekVerdict, peek}
 use Rattle.table.proofs.Cases.{held-own, held-fresh, peek-reported}
 use Rattle.table.proofs.Checks.{Asked, Payable, asks}
 use Rattle.table.proofs.Numbers.{Ground, throttled, admitted, admitted-new, grounds}
 use Rattle.table.proofs.Outcomes.{writes, waits, admits, admits-new, admitsAt, owedAt, spentAt, admittedAt, throttledAt, freshAt}
 use Rattle.table.proofs.Placing.{Own, Unknown}
-use Rattle.table.proofs.Seek.{NoneBelow, seek-at, seek-nowhere}
+use Rattle.table.proofs.Seek.{seek-at, seek-nowhere}
 use Rattle.table.proofs.Stored.{Stored}
 
 module _ {C R : Type 0} {E : Engine R} (L : Lawful E) (K : Columns C R) (q : Query) (c : C) where

@@ -16,9 +16,9 @@ use Rattle.table.specs.declared.search.Place.the-variants.{Nowhere, At}
 use Rattle.table.specs.Request.{Query, Request}
 use Rattle.table.specs.Checks.{requestCheck, guard}
 use Rattle.table.specs.Rule.{Rule, ruleOf}
-use Rattle.table.specs.Slots.{Columns, seek, carries, own, vacant, lowestFree}
+use Rattle.table.specs.Slots.{Columns, seek, carries, own, vacant, lowestFree, NoneBelow}
 use Rattle.table.specs.Calls.{Slot, none, at, Ruling, keep, write, ruled, newcomer, slotFrom, slotFor, judgeIn, judgeCall}
-use Rattle.table.proofs.Seek.{NoneBelow, Lowest, Sought, sought}
+use Rattle.table.proofs.Seek.{Lowest, Sought, sought}
 
 module _ {C R : Type 0} (K : Columns C R) (q : Query) (c : C) where
   -- slot i carries the subscriber's number, and none below it does

@@ -1,6 +1,7 @@
 -- Document 01, 'Seats': a table is a set of columns of equal length; each place of it is a slot (document 01's seat).
-use Prim.Native.Nat.{ℕ, zero, suc}
-use mathlib.Core.Bool.{Bool, cond, _||_}
+use mathlib.Core.Path.{_≡_}
+use Prim.Native.Nat.{ℕ, zero, suc, _≤_, _<_}
+use mathlib.Core.Bool.{Bool, false, cond, _||_}
 use mathlib.Core.List.{List}
 use lib.Dec.{eqb}
 use lib.ListN.{getD}
@@ -34,6 +35,14 @@ seekFrom test (suc more) i = cond (test i) (At i) (seekFrom test more (suc i))
 -- the lowest place below n that passes a test
 unfoldable pub seek : (ℕ → Bool) → ℕ → Place
 seek test n = seekFrom test n 0
+
+-- none of the places from one up to another passes a test
+abbrev pub NoneFrom : (ℕ → Bool) → ℕ → ℕ → Type 0
+NoneFrom test from to = (j : ℕ) → from ≤ j → j < to → test j ≡ false
+
+-- nothing below a place passes
+abbrev pub NoneBelow : (ℕ → Bool) → ℕ → Type 0
+NoneBelow test end = (j : ℕ) → j < end → test j ≡ false
 
 -- the slot carries the number
 unfoldable pub carries : List ℕ → ℕ → ℕ → Bool

@@ -7,9 +7,9 @@ use denote.Ref.{now}
 use Rattle.gcra.specs.Gcra.{gcra}
 use Rattle.table.specs.Request.{queryOf}
 use Rattle.table.specs.Rule.{ruleOf}
-use Rattle.table.specs.Slots.{vacant}
+use Rattle.table.specs.Slots.{vacant, NoneBelow}
 use Rattle.table.proofs.Slots.{vacant-test}
-use Rattle.table.proofs.Seek.{NoneBelow, none-next, seek-end, seek-here}
+use Rattle.table.proofs.Seek.{none-next, seek-end, seek-here}
 use Rattle.gcra_table.specs.Table.{tableOf, columns}
 use Rattle.gcra_table.proofs.Searches.{free-all}
 use borrow.Author.Needs.{needs}

@@ -13,9 +13,9 @@ use mathlib.Core.Bool.{_||_}
 use lib.Dec.{eqb}
 use lib.ListN.{getD}
 use Rattle.token_bucket.specs.declared.Bucket.{Bucket}
-use Rattle.table.specs.Slots.{vacant}
+use Rattle.table.specs.Slots.{vacant, NoneBelow}
 use Rattle.table.proofs.Slots.{vacant-test}
-use Rattle.table.proofs.Seek.{NoneBelow, none-next, seek-end, seek-here}
+use Rattle.table.proofs.Seek.{none-next, seek-end, seek-here}
 use Rattle.token_bucket_table.specs.Table.{tableOf, columns}
 use Rattle.token_bucket_table.proofs.Columns.{within}
 use Rattle.token_bucket_table.proofs.Searches.{free-all}
