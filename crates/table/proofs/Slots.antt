@@ -1,17 +1,19 @@
--- The length that two columns have in common, and what a slot carries.
+-- The length that two columns have in common, what a slot carries, and whether it is free.
 -- Assumes nothing.
-use mathlib.Core.Path.{_≡_, refl}
+use mathlib.Core.Path.{_≡_, refl, sym, _∙_}
 use mathlib.Core.Bool.{Bool, true, false, cond, _||_}
 use mathlib.Core.List.{List}
-use Prim.Native.Nat.{ℕ, _≤_}
+use Prim.Native.Nat.{ℕ, _+_, _≤_, _<_}
 use native.Mathlib.Omega.{arith}
 use lib.Dec.{eqb}
 use lib.ListN.{getD}
 use borrow.Author.Tests.{eq-eqb, ne-eqb, eqb-true, eqb-false}
 use Rattle.rate.specs.Engine.{Engine}
+use Rattle.rate.proofs.Tests.{neither}
 use Rattle.table.specs.Request.{Query}
 use Rattle.table.specs.Rule.{ruleOf}
-use Rattle.table.specs.Slots.{Columns, common, carries, vacant}
+use Rattle.table.specs.Slots.{Columns, common, carries, vacant, NoneFrom}
+use Rattle.table.proofs.Seek.{from-next}
 
 pub common-same : (a b : ℕ) → a ≡ b → common a b ≡ a
 unfolding common
@@ -38,9 +40,24 @@ pub carries-other : (ids : List ℕ) (subscriber i : ℕ) → (getD ids i 0 ≡ 
 unfolding carries
 carries-other ids subscriber i n = ne-eqb _ _ n
 
--- what the test of a free slot is, of an engine
-pub vacant-test :
-    {C R : Type 0} (E : Engine R) (K : Columns C R) (q : Query) (c : C) (i : ℕ) →
-    vacant (ruleOf E) K q c i ≡ (eqb (getD (K .ids c) i 0) 0 || E .free (q .plan) (q .moment) (K .row c i))
+-- whether a slot of an engine's table is free, as the code finds it on the record that it read
+pub vacant-told :
+    {C R : Type 0} (E : Engine R) (K : Columns C R) (q : Query) (c : C) (i : ℕ) {held : R} {found told : Bool} → held ≡ K .row c i →
+    found ≡ (eqb (getD (K .ids c) i 0) 0 || E .free (q .plan) (q .moment) held) → found ≡ told → vacant (ruleOf E) K q c i ≡ told
 unfolding vacant carries
-vacant-test E K q c i = refl
+vacant-told E K q c i read says told = rw (← read) (sym says ∙ told)
+
+-- what is known of a block of slots, of which those before i have been tested, if none may be free
+abbrev pub Taken : {C R : Type 0} → Engine R → Columns C R → Query → C → ℕ → ℕ → ℕ → Type 0
+Taken E K q c from to i = NoneFrom (carries (K .ids c) 0) from to × NoneFrom (vacant (ruleOf E) K q c) from i
+
+-- .. and after one more of them
+pub taken-next :
+    {C R : Type 0} (E : Engine R) (K : Columns C R) (q : Query) (c : C) (from to i : ℕ) {held : R} {may here : Bool} → from ≤ i → i < to →
+    held ≡ K .row c i → (may ≡ false → Taken E K q c from to i) → (here ≡ false → E .free (q .plan) (q .moment) held ≡ false) →
+    (may || here) ≡ false → Taken E K q c from to (i + 1)
+unfolding vacant
+taken-next E K q c from to i above below read before owes e =
+    let n = neither _ _ e in
+    let t = before (n .0) in
+    (t .0, from-next _ from i (t .1) (rw (t .0 i above below, ← read) (owes (n .1))))
