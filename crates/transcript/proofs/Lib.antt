@@ -8,6 +8,7 @@ pub mod Held
 pub mod Told
 pub mod Turning
 pub mod Streamed
+pub mod Served
 pub mod Keeping
 pub mod Feeding
 pub mod Entire
