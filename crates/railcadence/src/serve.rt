@@ -1,27 +1,71 @@
 // Standard input read piece by piece, and the answers to each piece written before the next is read, so that no answer is lost.
+// What goes through `read` and `write` is counted in `taken` and `sent`, modulo 2^64, so that the promises can speak of it.
+ghost use mathlib.Core.Path.{_≡_};
+ghost use mathlib.Core.Bool.{true};
 ghost use Prim.Native.Nat.{_≤_};
-ghost use lib.ListN.{length};
-ghost use Rattle.transcript.specs.Running.{Lent, Ready};
-ghost use Rattle.railcadence.specs.Serving.{Ample, Onwards};
+ghost use lib.ListN.{length, take};
+ghost use Rattle.transcript.specs.Running.{Lent, Ready, stateOf, endingOf};
+ghost use Rattle.transcript.specs.Stream.{mostLine};
+ghost use Rattle.transcript.specs.Transcript.{header};
+ghost use Rattle.railcadence.specs.Serving.{Ample, Counted, Took, Written, Onwards, Finished, accountOf, Answers, Serves};
 use libc::STDERR_FILENO;
 use libc::STDIN_FILENO;
 use libc::STDOUT_FILENO;
+use std::num::wrapping_add_u64;
 use transcript::stream;
 use transcript::stream::Session;
 use transcript::whole;
 
-// What a piece led to: more may come, or the input has ended, or a call has failed.
-pub enum Served {
-    More(Session),
-    End(Session),
+// What a read led to: so many bytes stand at the start of the piece, or the input has ended, or it cannot be read.
+enum Input {
+    Got(usize),
+    End,
     Failed,
 }
 
-// Writes the first bytes of the output, or says that standard output cannot be written.
-fn write(out: &[u8], count: usize) -> bool
-    requires { ⌜ count ≤ length (now out) ⌝ }
+// What a piece led to: the session after it, or its answers cannot be written.
+enum Answered {
+    Next(Session),
+    Lost,
+}
+
+// How a run ended: at the input's end, or before it since it cannot be read or is too long, or with answers that cannot be
+// written.
+pub enum Run {
+    Ended,
+    Unended,
+    TooLong,
+    Unwritten,
+}
+
+// Reads a piece and counts its bytes, or says that standard input cannot be read.
+fn read(piece: &mut [u8], taken: &mut u64) -> Input
+    ensures { λ r. ⌜ Took r (now (piece .exit)) (now (taken .entry)) (now (taken .exit)) ⌝ }
 {
-    if io::write_all(STDOUT_FILENO, &out[..count]) {
+    let got = libc::read(STDIN_FILENO, piece);
+    let n = io::count(got, piece);
+    *taken = wrapping_add_u64(*taken, n as u64);
+    if 0 < n {
+        return Input::Got(n);
+    }
+    if got < 0 {
+        io::write_all(
+            STDERR_FILENO,
+            b"railcadence: standard input cannot be read\n",
+        );
+        return Input::Failed;
+    }
+    Input::End
+}
+
+// Writes the first bytes of the output and counts them, or says that standard output cannot be written.
+fn write(out: &[u8], count: usize, sent: &mut u64) -> bool
+    requires { ⌜ count ≤ length (now out) ⌝ }
+    ensures { λ r. ⌜ (r ≡ true → Counted (now (sent .entry)) count (now (sent .exit))) ⌝ }
+{
+    let bytes = &out[..count];
+    if io::write_all(STDOUT_FILENO, bytes) {
+        *sent = wrapping_add_u64(*sent, bytes.len() as u64);
         return true;
     }
     io::write_all(
@@ -31,86 +75,111 @@ fn write(out: &[u8], count: usize) -> bool
     false
 }
 
-// A piece read, answered and written.
-fn turn(
+// The header written.
+fn begin(out: &mut [u8], sent: &mut u64) -> bool
+    requires { ⌜ length header ≤ length (now out) ⌝ }
+    ensures { λ r. ⌜ (r ≡ true → Written header (now (out .exit)) (now (sent .entry)) (now (sent .exit))) ⌝ }
+{
+    let end = whole::put_header(out);
+    write(out, end, sent)
+}
+
+// The first bytes of a piece answered: fed to the session, and what is said of them written.
+fn answer(
     session: Session,
+    piece: &[u8],
+    n: usize,
+    line: &mut [u8],
+    ids: &mut [u32],
+    tats: &mut [u64],
+    out: &mut [u8],
+    sent: &mut u64,
+) -> Answered
+    requires { ⌜ Ready session (now line) ⌝ }
+    requires { ⌜ Lent (now ids) (now tats) ⌝ }
+    requires { ⌜ Ample (now piece) (now out) ⌝ }
+    requires { ⌜ n ≤ length (now piece) ⌝ }
+    ensures { λ r. ⌜ Onwards r (stateOf session (now (line .entry)) (now (ids .entry)) (now (tats .entry))) (take n (now (piece .entry)))
+        (now (line .exit)) (now (ids .exit)) (now (tats .exit)) (now (out .exit)) (now (sent .entry)) (now (sent .exit)) ⌝ }
+{
+    let fed = stream::feed(session, &piece[..n], line, ids, tats, out, 0);
+    let next = fed.session;
+    if write(out, fed.at, sent) {
+        return Answered::Next(next);
+    }
+    Answered::Lost
+}
+
+// The input's end: what is said there written.
+fn close(session: Session, line: &[u8], out: &mut [u8], sent: &mut u64) -> Run
+    requires { ⌜ Ready session (now line) ⌝ }
+    requires { ⌜ mostLine ≤ length (now out) ⌝ }
+    ensures { λ r. ⌜ Finished r
+        (Written (endingOf session (now (line .entry))) (now (out .exit)) (now (sent .entry)) (now (sent .exit))) ⊥ ⊥ ⌝ }
+{
+    let end = stream::finish(session, line, out, 0);
+    if write(out, end, sent) {
+        return Run::Ended;
+    }
+    Run::Unwritten
+}
+
+// The pieces one after the other. A proved loop has to end, and nothing says that the input does: so the turns are counted down
+// from a number that no run uses up.
+fn pieces(
     piece: &mut [u8],
     line: &mut [u8],
     ids: &mut [u32],
     tats: &mut [u64],
     out: &mut [u8],
-) -> Served
-    requires { ⌜ Ready session (now line) ⌝ }
-    requires { ⌜ Lent (now ids) (now tats) ⌝ }
-    requires { ⌜ Ample (now piece) (now out) ⌝ }
-    ensures { λ r. ⌜ Onwards r (now (line .exit)) ⌝ }
-{
-    let got = libc::read(STDIN_FILENO, piece);
-    if got < 0 {
-        io::write_all(
-            STDERR_FILENO,
-            b"railcadence: standard input cannot be read\n",
-        );
-        return Served::Failed;
-    }
-    if got == 0 {
-        return Served::End(session);
-    }
-    let n = io::count(got, piece);
-    let fed = stream::feed(session, &piece[..n], line, ids, tats, out, 0);
-    let session = fed.session;
-    if write(out, fed.at) {
-        return Served::More(session);
-    }
-    Served::Failed
-}
-
-// The input's end.
-fn close(session: Session, line: &[u8], out: &mut [u8])
-    requires { ⌜ Ready session (now line) ⌝ }
-    requires { ⌜ 105 ≤ length (now out) ⌝ }
-{
-    let end = stream::finish(session, line, out, 0);
-    write(out, end);
-}
-
-// The pieces one after the other. A proved loop has to end, and nothing says that the input does: so the turns are counted down
-// from a number that no run uses up.
-fn pieces(piece: &mut [u8], line: &mut [u8], ids: &mut [u32], tats: &mut [u64], out: &mut [u8])
+    taken: &mut u64,
+    sent: &mut u64,
+) -> Run
     requires { ⌜ 127 ≤ length (now line) ⌝ }
     requires { ⌜ Lent (now ids) (now tats) ⌝ }
     requires { ⌜ Ample (now piece) (now out) ⌝ }
+    ensures { λ r. ⌜ Answers r (accountOf (now (ids .entry)) (now (tats .entry)) (now (taken .entry)) (now (sent .entry)))
+        (accountOf (now (ids .exit)) (now (tats .exit)) (now (taken .exit)) (now (sent .exit))) ⌝ }
 {
     let mut session = stream::start();
     let mut turns = u64::MAX;
     loop {
         if turns == 0 {
-            break;
+            break Run::TooLong;
         }
-        match turn(session, piece, line, ids, tats, out) {
-            Served::More(next) => {
+        match read(piece, taken) {
+            Input::Got(n) => {
+                let Answered::Next(next) = answer(session, piece, n, line, ids, tats, out, sent)
+                else {
+                    break Run::Unwritten;
+                };
                 session = next;
             }
-            Served::End(last) => {
-                close(last, line, out);
-                break;
-            }
-            Served::Failed => {
-                break;
-            }
+            Input::End => break close(session, line, out, sent),
+            Input::Failed => break Run::Unended,
         }
         turns -= 1;
     }
 }
 
 // The header, and then the answers.
-pub fn serve(piece: &mut [u8], line: &mut [u8], ids: &mut [u32], tats: &mut [u64], out: &mut [u8])
+pub fn serve(
+    piece: &mut [u8],
+    line: &mut [u8],
+    ids: &mut [u32],
+    tats: &mut [u64],
+    out: &mut [u8],
+    taken: &mut u64,
+    sent: &mut u64,
+) -> Run
     requires { ⌜ 127 ≤ length (now line) ⌝ }
     requires { ⌜ Lent (now ids) (now tats) ⌝ }
     requires { ⌜ Ample (now piece) (now out) ⌝ }
+    ensures { λ r. ⌜ Serves r (accountOf (now (ids .entry)) (now (tats .entry)) (now (taken .entry)) (now (sent .entry)))
+        (accountOf (now (ids .exit)) (now (tats .exit)) (now (taken .exit)) (now (sent .exit))) ⌝ }
 {
-    let end = whole::put_header(out);
-    if write(out, end) {
-        pieces(piece, line, ids, tats, out);
+    if begin(out, sent) {
+        return pieces(piece, line, ids, tats, out, taken, sent);
     }
+    Run::Unwritten
 }

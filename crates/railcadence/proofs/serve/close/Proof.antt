@@ -1,30 +1,51 @@
--- `railcadence::serve::close` meets its contract: one line fits the output.
+-- `railcadence::serve::close` meets its contract: what is said at the input's end fits the output, and all of it is written.
 -- Assumes nothing.
+use mathlib.Core.List.{List}
+use Prim.Native.Nat.{ℕ, _+_, _≤_}
 use native.Mathlib.Omega.{arith}
-use mathlib.Core.List.{[]}
+use lib.ListN.{length}
 use denote.Ref.{now}
-use Rattle.transcript.specs.Running.{stateOf}
-use Rattle.railcadence.proofs.Suffices.{end-fits}
 use borrow.Author.Needs.{needs}
+use Rattle.transcript.specs.Running.{endingOf}
+use Rattle.railcadence.specs.Serving.{Finished}
+use Rattle.railcadence.proofs.Suffices.{end-fits}
+use Rattle.railcadence.proofs.Counting.{written}
 use Rattle.railcadence.proofs.serve.close.Statement.{statement}
 use Rattle.railcadence.proofs.serve.close.Tie as tie
 
+abbrev text : tie.Start → List ℕ
+text s = endingOf (s .args .session) (now (s .args .line))
+
+fits : (s : tie.Start) → 0 + length (text s) ≤ length (now (s .args .out))
+fits s = end-fits (s .args .session) (now (s .args .line)) (now (s .args .out)) (s .pre .1)
+
 finish-requires : tie.Need-finish-requires
 finish-requires c κs =
-    let p3 = c .before .before .before in
-    (p3 .pre .0, end-fits (stateOf (p3 .args .session) (now (p3 .args .line)) [] []) (now (p3 .args .out)) (p3 .pre .1))
+    let start = c .before .before .before in
+    (start .pre .0, fits start)
 
 write-requires : tie.Need-write-requires
 write-requires c κs =
-    let p3 = c .before .before .before in
-    let p7 = p3 .before .before .before .before in
-    omega (arith, p3 .finish .ensures .0, c .before .before .out .given, end-fits (stateOf (p7 .args .session) (now (p7 .args .line)) [] []) (now (p7 .args .out)) (p7 .pre .1))
+    let finished = c .before .before .before .before in
+    omega (arith, c .before .before .before .out .given, finished .finish .ensures .0, fits (finished .before .before .before .before))
 
 same-length : tie.Need-same-length
 same-length c = search needs
 
 returns : tie.Need-returns
-returns c = search needs
+unfolding Finished
+returns c =
+    let finished = c .before .before .before .before .before .before in
+    let start = finished .before .before .before .before in
+    let put = finished .finish .ensures in
+    written (text start) (now (start .args .out)) (fits start) (put .0) (put .1) (c .before .write .ensures (c .if1 .taken))
+
+same-length-2 : tie.Need-same-length-2
+same-length-2 c = search needs
+
+returns-2 : tie.Need-returns-2
+unfolding Finished
+returns-2 c = tt
 
 pub close-spec : {M : Type 1} → statement M
-close-spec = tie.close (tie.spec finish-requires write-requires same-length returns)
+close-spec = tie.close (tie.spec finish-requires write-requires same-length returns same-length-2 returns-2)

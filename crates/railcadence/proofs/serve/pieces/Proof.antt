@@ -1,154 +1,244 @@
--- `railcadence::serve::pieces` meets its contract: a session stays ready, and the buffers stay as long as they are.
+-- `railcadence::serve::pieces` meets its contract: the loop keeps that what was read so far is an input whose state is the session's,
+-- and that what is said of it was written; and the buffers stay as long as they are.
 -- Assumes nothing.
-use borrow.Author.Needs.{needs}
+use mathlib.Core.Path.{sym, _∙_}
+use Prim.Native.Nat.{_≤_}
 use native.Mathlib.Omega.{arith}
-use mathlib.Core.Path.{_∙_}
-use Rattle.transcript.specs.Running.{Ready}
+use lib.ListN.{length}
+use lib.Seq.{length-take-le}
+use borrow.Author.Needs.{needs}
+use Rattle.transcript.specs.Running.{Ready, stateOf}
 use Rattle.transcript.proofs.Entire.{ready-start}
-use Rattle.railcadence.proofs.Suffices.{ends, goes-on, Same, same-start, same-lent, same-ample}
+use Rattle.railcadence.specs.Serving.{Counted, Finished, accountOf}
+use Rattle.railcadence.proofs.Suffices.{Same, same-start, same-lent}
+use Rattle.railcadence.proofs.Counting.{counted-as, counted-none}
+use Rattle.railcadence.proofs.Reached.{took-got, took-end, took-failed, onwards-next}
+use Rattle.railcadence.proofs.Reached.{Reached, reached-start, reached-on, unended, closed}
 use Rattle.railcadence.proofs.serve.pieces.Statement.{statement}
 use Rattle.railcadence.proofs.serve.pieces.Tie as tie
 
 abbrev Inv-loop : tie.InvT-loop
-Inv-loop piece₀ line₀ ids₀ tats₀ out₀ session₀ turns₀ piece line ids tats out session turns = Ready session line × Same piece line ids tats out piece₀ line₀ ids₀ tats₀ out₀
+Inv-loop piece₀ line₀ ids₀ tats₀ out₀ taken₀ sent₀ session₀ turns₀ piece line ids tats out taken sent session turns =
+    Ready session line
+    × (Same piece line ids tats out piece₀ line₀ ids₀ tats₀ out₀
+    × Reached (accountOf ids₀ tats₀ taken₀ sent₀) turns (stateOf session line ids tats) taken sent)
 
 abbrev μ-loop : tie.MeasureT-loop
-μ-loop piece₀ line₀ ids₀ tats₀ out₀ session₀ turns₀ piece line ids tats out session turns = turns
+μ-loop piece₀ line₀ ids₀ tats₀ out₀ taken₀ sent₀ session₀ turns₀ piece line ids tats out taken sent session turns = turns
+
+-- the head of a turn that has read, and what the read got
+abbrev head : tie.After-piece Inv-loop μ-loop → tie.At-loop Inv-loop μ-loop
+head c = c .before .before .before .before .before
+
+got :
+    (c : tie.After-n Inv-loop μ-loop) → let read = c .before .before .before .before in let n = c .n .given .0 .0 in
+    (1 ≤ n) × ((n ≤ length (read .read .last .0)) × Counted (head (c .before .before .before) .loop .taken) n (read .read .last .1 .0))
+got c = took-got _ _ _ _ (c .before .before .before .before .read .ensures) (c .n .given .1)
+
+-- the piece of a turn that has answered it, and that the turn was not the last
+abbrev answered : tie.After-answer Inv-loop μ-loop → tie.After-piece Inv-loop μ-loop
+answered c = c .before .before .before .before .before .before .before .before .before .before .before
+
+turn-left : (c : tie.After-answer Inv-loop μ-loop) → 1 ≤ head (answered c) .loop .turns
+turn-left c = omega (arith, answered c .before .before .before .before .if1 .left)
 
 start-requires : tie.Need-start-requires Inv-loop μ-loop
 start-requires c κs = search needs
 
 loop-holds : tie.Need-loop-holds Inv-loop μ-loop
-loop-holds c = (ready-start _ _ (c .start .ensures) (c .before .before .before .before .before .before .pre .0), same-start _ _ _ _ _)
+loop-holds c =
+    let started = c .start .ensures in
+    let line-enough = c .before .before .before .before .before .before .pre .0 in
+    (ready-start _ _ started line-enough, (same-start _ _ _ _ _, reached-start _ _ (omega arith) started))
 
-turn-requires : tie.Need-turn-requires Inv-loop μ-loop
-turn-requires c κs =
-    let inv = c .before .before .before .before .before .before .loop .inv in
-    let pre = c .before .before .before .before .before .before .before .before .before .before .before .before .before .pre in
-    (inv .0, (same-lent (inv .1) (pre .1 .0), same-ample (inv .1) (pre .1 .1)))
+read-requires : tie.Need-read-requires Inv-loop μ-loop
+read-requires c κs = search needs
+
+enum-known-n : tie.Need-enum-known-n Inv-loop μ-loop
+enum-known-n c = search needs
+
+answer-requires : tie.Need-answer-requires Inv-loop μ-loop
+answer-requires c κs =
+    let n = c .before .before .before .before .before .before .before in
+    let piece = n .before .before .before in
+    let inv = head piece .loop .inv in
+    let same = inv .1 .0 in
+    let pre = head piece .before .before .before .before .before .before .before .pre in
+    let ample = pre .1 .1 in (
+      inv .0,
+      (
+        same-lent same (pre .1 .0),
+        (
+          record {
+            each-byte = omega (arith, piece .piece .given, same .of-piece, same .of-out, ample .each-byte);
+            one-line = omega (arith, same .of-out, ample .one-line);
+          },
+          omega (arith, got n .1 .0),
+        ),
+      ),
+    )
 
 enum-known-next : tie.Need-enum-known-next Inv-loop μ-loop
 enum-known-next c = search needs
 
-enum-known-last : tie.Need-enum-known-last Inv-loop μ-loop
-enum-known-last c = search needs
-
-close-requires : tie.Need-close-requires Inv-loop μ-loop
-close-requires c κs =
-    let p3 = c .before .before .before in
-    let p6 = p3 .before .before .before in
-    let p15 = p6 .before .before .before .before .before .before .before .before .before in
-    let p22 = p15 .before .before .before .before .before .before .before in
-    let p29 = p22 .before .before .before .before .before .before .before in
-    (ends _ (p15 .turn .ensures) (p3 .last .given .1), omega (arith, p6 .out .given, p22 .loop .inv .1 .of-out, p29 .pre .1 .1 .one-line))
-
 enum-told : tie.Need-enum-told Inv-loop μ-loop
 enum-told c = search needs
 
+enum-told-2 : tie.Need-enum-told-2 Inv-loop μ-loop
+enum-told-2 c = search needs
+
+close-requires : tie.Need-close-requires Inv-loop μ-loop
+close-requires c κs =
+    let loop = c .before .before .before .before .before .before .before .before .before .before .before in
+    let pre = loop .before .before .before .before .before .before .before .pre in
+    (loop .loop .inv .0, omega (arith, loop .loop .inv .1 .0 .of-out, pre .1 .1 .one-line))
+
+enum-told-3 : tie.Need-enum-told-3 Inv-loop μ-loop
+enum-told-3 c = search needs
+
 sub-turns : tie.Need-sub-turns Inv-loop μ-loop
-sub-turns c =
-    let p19 = c .before .before .before .before .before .before .before .before .before .before .before .before .before .before .before .before .before .before .before in
-    omega (arith, p19 .loop-test .left)
+sub-turns c = turn-left (c .before .before .before .before .before .before .before .before .before .before .before)
 
 loop-less : tie.Need-loop-less Inv-loop μ-loop
-loop-less c =
-    let p19 = c .before .before .before .before .before .before .before .before .before .before .before .before .before .before .before .before .before .before .before in
-    omega (arith, p19 .loop-test .left)
+loop-less c = omega (arith, turn-left (c .before .before .before .before .before .before .before .before .before .before .before))
 
 loop-again : tie.Need-loop-again Inv-loop μ-loop
 loop-again c =
-    let p4 = c .before .before .before .before in
-    let p6 = p4 .before .before in
-    let p8 = p6 .before .before in
-    let p10 = p8 .before .before in
-    let p12 = p10 .before .before in
-    let p13 = p12 .before in
-    let p20 = p13 .before .before .before .before .before .before .before in
-    (goes-on _ (p13 .turn .ensures) (c .before .next .given .1), record { of-piece = p12 .piece .given ∙ p20 .loop .inv .1 .of-piece; of-line = p10 .line .given ∙ p20 .loop .inv .1 .of-line; of-ids = p8 .ids .given ∙ p20 .loop .inv .1 .of-ids; of-tats = p6 .tats .given ∙ p20 .loop .inv .1 .of-tats; of-out = p4 .out .given ∙ p20 .loop .inv .1 .of-out })
+    let next = c .before in
+    let answer = next .before .before .before .before .before .before .before .before .before .before in
+    let piece = answered answer in
+    let inv = head piece .loop .inv in
+    let same = inv .1 .0 in
+    let read = got (answer .before .before .before .before .before .before .before .before) in
+    let whole = length-take-le _ _ (read .1 .0) in
+    let advanced = onwards-next _ _ _ _ _ _ _ _ _ (answer .answer .ensures) (next .next .given .1) in (
+      advanced .ready,
+      (
+        record {
+          of-piece = piece .piece .given ∙ same .of-piece;
+          of-line = next .before .before .before .before .before .before .before .before .before .line .given ∙ same .of-line;
+          of-ids = next .before .before .before .before .before .before .before .ids .given ∙ same .of-ids;
+          of-tats = next .before .before .before .before .before .tats .given ∙ same .of-tats;
+          of-out = next .before .before .before .out .given ∙ same .of-out;
+        },
+        reached-on (inv .1 .1) _ (omega (arith, whole, read .0)) (advanced .state-is) (counted-as (sym whole) (read .1 .1))
+            (advanced .written .sent-is),
+      ),
+    )
 
 same-length : tie.Need-same-length Inv-loop μ-loop
-same-length c = c .before .loop .inv .1 .of-piece
+same-length c = c .before .loop .inv .1 .0 .of-piece
 
 same-length-2 : tie.Need-same-length-2 Inv-loop μ-loop
-same-length-2 c = c .before .loop .inv .1 .of-line
+same-length-2 c = c .before .loop .inv .1 .0 .of-line
 
 same-length-3 : tie.Need-same-length-3 Inv-loop μ-loop
-same-length-3 c = c .before .loop .inv .1 .of-ids
+same-length-3 c = c .before .loop .inv .1 .0 .of-ids
 
 same-length-4 : tie.Need-same-length-4 Inv-loop μ-loop
-same-length-4 c = c .before .loop .inv .1 .of-tats
+same-length-4 c = c .before .loop .inv .1 .0 .of-tats
 
 same-length-5 : tie.Need-same-length-5 Inv-loop μ-loop
-same-length-5 c = c .before .loop .inv .1 .of-out
+same-length-5 c = c .before .loop .inv .1 .0 .of-out
 
 returns : tie.Need-returns Inv-loop μ-loop
-returns c = search needs
+unfolding Finished
+returns c =
+    let reached = c .before .loop .inv .1 .1 in
+    unended reached (counted-none _) (omega (arith, reached .turned, c .if1 .taken))
 
 same-length-6 : tie.Need-same-length-6 Inv-loop μ-loop
 same-length-6 c =
-    let p17 = c .before .before .before .before .before .before .before .before .before .before .before .before .before .before .before .before .before in
-    let p25 = p17 .before .before .before .before .before .before .before .before in
-    p17 .piece .given ∙ p25 .loop .inv .1 .of-piece
+    let piece = answered (c .before .before .before .before .before .before .before .before .before .before) in
+    piece .piece .given ∙ head piece .loop .inv .1 .0 .of-piece
 
 same-length-7 : tie.Need-same-length-7 Inv-loop μ-loop
 same-length-7 c =
-    let p15 = c .before .before .before .before .before .before .before .before .before .before .before .before .before .before .before in
-    let p25 = p15 .before .before .before .before .before .before .before .before .before .before in
-    p15 .line .given ∙ p25 .loop .inv .1 .of-line
+    let piece = answered (c .before .before .before .before .before .before .before .before .before .before) in
+    c .before .before .before .before .before .before .before .before .before .line .given ∙ head piece .loop .inv .1 .0 .of-line
 
 same-length-8 : tie.Need-same-length-8 Inv-loop μ-loop
 same-length-8 c =
-    let p13 = c .before .before .before .before .before .before .before .before .before .before .before .before .before in
-    let p25 = p13 .before .before .before .before .before .before .before .before .before .before .before .before in
-    p13 .ids .given ∙ p25 .loop .inv .1 .of-ids
+    let piece = answered (c .before .before .before .before .before .before .before .before .before .before) in
+    c .before .before .before .before .before .before .before .ids .given ∙ head piece .loop .inv .1 .0 .of-ids
 
 same-length-9 : tie.Need-same-length-9 Inv-loop μ-loop
 same-length-9 c =
-    let p11 = c .before .before .before .before .before .before .before .before .before .before .before in
-    let p25 = p11 .before .before .before .before .before .before .before .before .before .before .before .before .before .before in
-    p11 .tats .given ∙ p25 .loop .inv .1 .of-tats
+    let piece = answered (c .before .before .before .before .before .before .before .before .before .before) in
+    c .before .before .before .before .before .tats .given ∙ head piece .loop .inv .1 .0 .of-tats
 
 same-length-10 : tie.Need-same-length-10 Inv-loop μ-loop
 same-length-10 c =
-    let p9 = c .before .before .before .before .before .before .before .before .before in
-    let p25 = p9 .before .before .before .before .before .before .before .before .before .before .before .before .before .before .before .before in
-    c .before .out2 .given ∙ p9 .out .given ∙ p25 .loop .inv .1 .of-out
+    let piece = answered (c .before .before .before .before .before .before .before .before .before .before) in
+    c .before .before .before .out .given ∙ head piece .loop .inv .1 .0 .of-out
 
 returns-2 : tie.Need-returns-2 Inv-loop μ-loop
-returns-2 c = search needs
+unfolding Finished
+returns-2 c = tt
 
 same-length-11 : tie.Need-same-length-11 Inv-loop μ-loop
 same-length-11 c =
-    let p11 = c .before .before .before .before .before .before .before .before .before .before .before in
-    let p19 = p11 .before .before .before .before .before .before .before .before in
-    p11 .piece .given ∙ p19 .loop .inv .1 .of-piece
+    let piece = c .before .before .before .before .before .before .before .before .before in
+    piece .piece .given ∙ head piece .loop .inv .1 .0 .of-piece
 
 same-length-12 : tie.Need-same-length-12 Inv-loop μ-loop
 same-length-12 c =
-    let p9 = c .before .before .before .before .before .before .before .before .before in
-    let p19 = p9 .before .before .before .before .before .before .before .before .before .before in
-    p9 .line .given ∙ p19 .loop .inv .1 .of-line
+    let piece = c .before .before .before .before .before .before .before .before .before in
+    head piece .loop .inv .1 .0 .of-line
 
 same-length-13 : tie.Need-same-length-13 Inv-loop μ-loop
 same-length-13 c =
-    let p7 = c .before .before .before .before .before .before .before in
-    let p19 = p7 .before .before .before .before .before .before .before .before .before .before .before .before in
-    p7 .ids .given ∙ p19 .loop .inv .1 .of-ids
+    let piece = c .before .before .before .before .before .before .before .before .before in
+    head piece .loop .inv .1 .0 .of-ids
 
 same-length-14 : tie.Need-same-length-14 Inv-loop μ-loop
 same-length-14 c =
-    let p5 = c .before .before .before .before .before in
-    let p19 = p5 .before .before .before .before .before .before .before .before .before .before .before .before .before .before in
-    p5 .tats .given ∙ p19 .loop .inv .1 .of-tats
+    let piece = c .before .before .before .before .before .before .before .before .before in
+    head piece .loop .inv .1 .0 .of-tats
 
 same-length-15 : tie.Need-same-length-15 Inv-loop μ-loop
 same-length-15 c =
-    let p3 = c .before .before .before in
-    let p19 = p3 .before .before .before .before .before .before .before .before .before .before .before .before .before .before .before .before in
-    p3 .out .given ∙ p19 .loop .inv .1 .of-out
+    let piece = c .before .before .before .before .before .before .before .before .before in
+    c .before .out2 .given ∙ head piece .loop .inv .1 .0 .of-out
 
 returns-3 : tie.Need-returns-3 Inv-loop μ-loop
-returns-3 c = search needs
+returns-3 c =
+    let closing = c .before .before in
+    let piece = closing .before .before .before .before .before .before .before in
+    let loop = head piece .loop in
+    let none = took-end _ _ _ _ (piece .before .read .ensures) (closing .before .before .before .before .enum-told2 .given .1) in
+    closed (loop .session) (loop .line) (loop .inv .1 .1) none _ _ _ (closing .close .ensures)
+
+same-length-16 : tie.Need-same-length-16 Inv-loop μ-loop
+same-length-16 c =
+    let piece = c .before .before .before in
+    piece .piece .given ∙ head piece .loop .inv .1 .0 .of-piece
+
+same-length-17 : tie.Need-same-length-17 Inv-loop μ-loop
+same-length-17 c =
+    let piece = c .before .before .before in
+    head piece .loop .inv .1 .0 .of-line
+
+same-length-18 : tie.Need-same-length-18 Inv-loop μ-loop
+same-length-18 c =
+    let piece = c .before .before .before in
+    head piece .loop .inv .1 .0 .of-ids
+
+same-length-19 : tie.Need-same-length-19 Inv-loop μ-loop
+same-length-19 c =
+    let piece = c .before .before .before in
+    head piece .loop .inv .1 .0 .of-tats
+
+same-length-20 : tie.Need-same-length-20 Inv-loop μ-loop
+same-length-20 c =
+    let piece = c .before .before .before in
+    head piece .loop .inv .1 .0 .of-out
+
+returns-4 : tie.Need-returns-4 Inv-loop μ-loop
+unfolding Finished
+returns-4 c =
+    let piece = c .before .before .before in
+    unended (head piece .loop .inv .1 .1) (took-failed _ _ _ _ (piece .before .read .ensures) (c .enum-told3 .given .1)) (omega arith)
 
 pub pieces-spec : {M : Type 1} → statement M
 pieces-spec =
@@ -158,11 +248,14 @@ pieces-spec =
     μ-loop
     start-requires
     loop-holds
-    turn-requires
+    read-requires
+    enum-known-n
+    answer-requires
     enum-known-next
-    enum-known-last
-    close-requires
     enum-told
+    enum-told-2
+    close-requires
+    enum-told-3
     sub-turns
     loop-less
     loop-again
@@ -183,4 +276,10 @@ pieces-spec =
     same-length-13
     same-length-14
     same-length-15
-    returns-3)
+    returns-3
+    same-length-16
+    same-length-17
+    same-length-18
+    same-length-19
+    same-length-20
+    returns-4)

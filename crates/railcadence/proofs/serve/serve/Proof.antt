@@ -1,25 +1,19 @@
--- `railcadence::serve::serve` meets its contract: the header fits the output, and the buffers stay as long as they are.
+-- `railcadence::serve::serve` meets its contract: the header and then the answers are the transcript.
 -- Assumes nothing.
 use native.Mathlib.Omega.{arith}
-use Rattle.transcript.proofs.Lengths.{header-length}
+use denote.Ref.{now}
 use borrow.Author.Needs.{needs}
+use Rattle.transcript.proofs.Lengths.{header-length}
+use Rattle.railcadence.specs.Serving.{Finished, accountOf}
+use Rattle.railcadence.proofs.Reached.{served}
 use Rattle.railcadence.proofs.serve.serve.Statement.{statement}
 use Rattle.railcadence.proofs.serve.serve.Tie as tie
 
-put-header-requires : tie.Need-put-header-requires
-put-header-requires c κs = omega (arith, header-length, c .before .before .before .before .before .before .pre .1 .1 .one-line)
-
-write-requires : tie.Need-write-requires
-write-requires c κs =
-    let p3 = c .before .before .before in
-    let p10 = p3 .before .before .before .before .before .before .before in
-    omega (arith, header-length, p3 .put-header .ensures .0, c .before .before .out .given, p10 .pre .1 .1 .one-line)
+begin-requires : tie.Need-begin-requires
+begin-requires c κs = omega (arith, header-length, c .before .before .before .before .before .before .before .pre .1 .1 .one-line)
 
 pieces-requires : tie.Need-pieces-requires
-pieces-requires c κs =
-    let p9 = c .before .before .before .before .before .before .before .before .before in
-    let p17 = p9 .before .before .before .before .before .before .before .before in
-    (p17 .pre .0, (p17 .pre .1 .0, record { each-byte = omega (arith, p9 .out .given, p17 .pre .1 .1 .each-byte); one-line = omega (arith, p9 .out .given, p17 .pre .1 .1 .one-line) }))
+pieces-requires c κs = search needs
 
 same-length : tie.Need-same-length
 same-length c = search needs
@@ -37,20 +31,27 @@ same-length-5 : tie.Need-same-length-5
 same-length-5 c = search needs
 
 returns : tie.Need-returns
-returns c = search needs
+returns c =
+    let ran = c .before .before .before .before .before .before .before .before .before .before in
+    let went = ran .before .before .before .before .before .before .before .before in
+    let begun = went .before .before .before in
+    let start = begun .before .before .before .before .before .before .before .before in
+    let a = start .args in
+    let account = accountOf (now (a .ids)) (now (a .tats)) (now (a .taken)) (now (a .sent)) in
+    served account (start .pre .1 .0) (begun .begin .ensures (went .if1 .taken) .sent-is) _ _ (ran .pieces .ensures)
 
 same-length-6 : tie.Need-same-length-6
 same-length-6 c = search needs
 
 returns-2 : tie.Need-returns-2
-returns-2 c = search needs
+unfolding Finished
+returns-2 c = tt
 
 pub serve-spec : {M : Type 1} → statement M
 serve-spec =
     tie.close
     (tie.spec
-    put-header-requires
-    write-requires
+    begin-requires
     pieces-requires
     same-length
     same-length-2

@@ -1,37 +1,46 @@
--- `railcadence::serve::write` meets its contract: the bytes are the output's first.
+-- `railcadence::serve::write` meets its contract: the bytes that are handed over are counted, and are as many as asked.
 -- Assumes nothing.
 use mathlib.Core.Path.{sym}
+use mathlib.Core.Bool.{false≢true}
+use native.Mathlib.Omega.{arith}
 use lib.Seq.{length-take-le}
 use denote.Ref.{now}
 use borrow.Author.Needs.{needs}
+use Rattle.railcadence.proofs.Counting.{wrapped, counted-as}
 use Rattle.railcadence.proofs.serve.write.Statement.{statement}
 use Rattle.railcadence.proofs.serve.write.Tie as tie
 
-slice-aggregate-write-all : tie.Need-slice-aggregate-write-all
-slice-aggregate-write-all c = sym (length-take-le (c .before .before .args .count) (now (c .before .before .args .out)) (c .before .before .pre))
+slice-aggregate-bytes : tie.Need-slice-aggregate-bytes
+slice-aggregate-bytes c = sym (length-take-le _ (now (c .before .before .args .out)) (omega (arith, c .before .before .pre)))
 
 write-all-requires : tie.Need-write-all-requires
 write-all-requires c κs = search needs
 
-returns : tie.Need-returns
-returns c = search needs
+wrapping-add-u64-requires : tie.Need-wrapping-add-u64-requires
+wrapping-add-u64-requires c κs = search needs
 
-slice-aggregate-write-all-2 : tie.Need-slice-aggregate-write-all-2
-slice-aggregate-write-all-2 c = search needs
+returns : tie.Need-returns
+returns c =
+    let start = c .before .before .before .before .before .before in
+    λ e. counted-as (length-take-le (start .args .count) (now (start .args .out)) (start .pre)) (wrapped _ _ (c .wrapping-add-u64 .ensures))
+
+slice-aggregate-write-all : tie.Need-slice-aggregate-write-all
+slice-aggregate-write-all c = search needs
 
 write-all-requires-2 : tie.Need-write-all-requires-2
 write-all-requires-2 c κs = search needs
 
 returns-2 : tie.Need-returns-2
-returns-2 c = search needs
+returns-2 c = λ e. absurd (false≢true e)
 
 pub write-spec : {M : Type 1} → statement M
 write-spec =
     tie.close
     (tie.spec
-    slice-aggregate-write-all
+    slice-aggregate-bytes
     write-all-requires
+    wrapping-add-u64-requires
     returns
-    slice-aggregate-write-all-2
+    slice-aggregate-write-all
     write-all-requires-2
     returns-2)

@@ -1,0 +1,155 @@
+-- How far a run has come: what was read so far is an input, whose state is the session's, and what is said of it was written. A
+-- piece more leads on, since what is said of two pieces is what is said of the first and then of the second.
+-- Assumes nothing.
+use mathlib.Core.Path.{_≡_, refl, sym, ap, subst, _∙_}
+use mathlib.Core.List.{List, [], _++_}
+use Prim.Native.Nat.{ℕ, _+_, _-_, _≤_}
+use native.Mathlib.Nat.{add-zero}
+use native.Mathlib.Omega.{arith}
+use lib.ListN.{length, length-append}
+use Rattle.transcript.specs.declared.stream.Session.{Session}
+use Rattle.transcript.specs.Stream.{State, said, after, ending}
+use Rattle.transcript.specs.Running.{Lent, stateOf, started, endingOf}
+use Rattle.transcript.specs.Transcript.{header}
+use Rattle.transcript.proofs.Streamed.{said-append, after-append, streamed}
+use Rattle.transcript.proofs.Served.{said-none, after-none, ending-of}
+use Rattle.railcadence.specs.declared.serve.Input.{Input}
+use Rattle.railcadence.specs.declared.serve.Input.the-variants.{Got, End, Failed}
+use Rattle.railcadence.specs.declared.serve.Answered.{Answered}
+use Rattle.railcadence.specs.declared.serve.Answered.the-variants.{Next}
+use Rattle.railcadence.specs.declared.serve.Run.{Run}
+use Rattle.railcadence.specs.declared.serve.Run.the-variants.{Ended, Unended, TooLong, Unwritten}
+use Rattle.railcadence.specs.Serving.{Counted, Took, Written, Advanced, Onwards, Finished}
+use Rattle.railcadence.specs.Serving.{Account, accountOf, startOf, tooLong, Ran, Answers, Serves}
+use Rattle.railcadence.proofs.Counting.{counted-as, counted-none, counted-on}
+
+-- what each answer tells
+module _ (r : Input) (piece : List ℕ) (taken taken′ : ℕ) (took : Took r piece taken taken′) where
+  pub took-got : {n : ℕ} → r ≡ Got n → (1 ≤ n) × ((n ≤ length piece) × Counted taken n taken′)
+  unfolding Took
+  took-got e = subst (λ (x : Input). Took x piece taken taken′) e took
+
+  pub took-end : r ≡ End → Counted taken 0 taken′
+  unfolding Took
+  took-end e = subst (λ (x : Input). Took x piece taken taken′) e took
+
+  pub took-failed : r ≡ Failed → Counted taken 0 taken′
+  unfolding Took
+  took-failed e = subst (λ (x : Input). Took x piece taken taken′) e took
+
+pub onwards-next :
+    (r : Answered) {s : Session} (σ : State) (piece line ids tats out : List ℕ) (sent sent′ : ℕ) →
+    Onwards r σ piece line ids tats out sent sent′ → r ≡ Next s → Advanced s σ piece line ids tats out sent sent′
+unfolding Onwards
+onwards-next r σ piece line ids tats out sent sent′ onwards e =
+    subst (λ (x : Answered). Onwards x σ piece line ids tats out sent sent′) e onwards
+
+-- the input so far, of which each turn read a byte at least
+pub record Reached (a : Account) (turns : ℕ) (σ : State) (taken sent : ℕ) : Type 0 where
+  pub input : List ℕ
+  pub turned : tooLong ≤ turns + length input
+  pub state-is : σ ≡ after (startOf a) input
+  pub taken-is : Counted (a .taken) (length input) taken
+  pub sent-is : Counted (a .sent) (length (said (startOf a) input)) sent
+
+pub reached-start :
+    (a : Account) {turns : ℕ} {s : Session} (line : List ℕ) → tooLong ≤ turns → s ≡ started →
+    Reached a turns (stateOf s line (a .ids) (a .tats)) (a .taken) (a .sent)
+reached-start a line h e =
+    record {
+      input = [];
+      turned = omega arith;
+      state-is = ap (λ (x : Session). stateOf x line (a .ids) (a .tats)) e ∙ sym (after-none (startOf a));
+      taken-is = counted-none (a .taken);
+      sent-is = counted-as (ap (λ (l : List ℕ). length l) (sym (said-none (startOf a)))) (counted-none (a .sent));
+    }
+
+module _ {a : Account} {turns : ℕ} {σ : State} {taken sent : ℕ} (r : Reached a turns σ taken sent) where
+  -- a piece that was read and answered
+  pub reached-on :
+      (p : List ℕ) {τ : State} {taken′ sent′ : ℕ} → 1 ≤ length p → τ ≡ after σ p →
+      Counted taken (length p) taken′ → Counted sent (length (said σ p)) sent′ → Reached a (turns - 1) τ taken′ sent′
+  reached-on p h e t s =
+      let σ₀ = startOf a in
+      let so-far = said σ₀ (r .input) in
+      record {
+        input = r .input ++ p;
+        turned = omega (arith, length-append (r .input) p, r .turned);
+        state-is = e ∙ ap (λ (x : State). after x p) (r .state-is) ∙ sym (after-append σ₀ (r .input) p);
+        taken-is = counted-as (sym (length-append (r .input) p)) (counted-on (r .taken-is) t);
+        sent-is = counted-as
+            (ap (λ (x : State). length so-far + length (said x p)) (r .state-is)
+            ∙ sym (length-append so-far (said (after σ₀ (r .input)) p))
+            ∙ ap (λ (l : List ℕ). length l) (sym (said-append σ₀ (r .input) p)))
+            (counted-on (r .sent-is) s);
+      }
+
+  -- a run that reads no more
+  module _ {taken′ : ℕ} (none : Counted taken 0 taken′) where
+    stopped :
+        (text : List ℕ → List ℕ) {least sent′ : ℕ} → least ≤ length (r .input) → Counted (a .sent) (length (text (r .input))) sent′ →
+        Ran least text a (accountOf (σ .ids) (σ .tats) taken′ sent′)
+    stopped text h c =
+        record {
+          input = r .input;
+          at-least = h;
+          taken-is = counted-as (add-zero (length (r .input))) (counted-on (r .taken-is) none);
+          sent-is = c;
+          ids-are = ap (λ (x : State). x .ids) (r .state-is);
+          tats-are = ap (λ (x : State). x .tats) (r .state-is);
+        }
+
+    pub unended :
+        {least : ℕ} → least ≤ length (r .input) →
+        Ran least (λ input. said (startOf a) input) a (accountOf (σ .ids) (σ .tats) taken′ sent)
+    unended h = stopped (λ input. said (startOf a) input) h (r .sent-is)
+
+    ended :
+        {sent′ : ℕ} → Counted sent (length (ending σ)) sent′ →
+        Ran 0 (λ input. said (startOf a) input ++ ending (after (startOf a) input)) a (accountOf (σ .ids) (σ .tats) taken′ sent′)
+    ended c =
+        let so-far = said (startOf a) (r .input) in
+        stopped (λ input. said (startOf a) input ++ ending (after (startOf a) input)) (omega arith)
+        (counted-as
+        (ap (λ (x : State). length so-far + length (ending x)) (r .state-is)
+        ∙ sym (length-append so-far (ending (after (startOf a) (r .input)))))
+        (counted-on (r .sent-is) c))
+
+-- as `close` leaves it
+pub closed :
+    {a : Account} {turns : ℕ} (s : Session) (line : List ℕ) {ids tats : List ℕ} {taken taken′ sent : ℕ} →
+    Reached a turns (stateOf s line ids tats) taken sent → Counted taken 0 taken′ → (run : Run) (out : List ℕ) (sent′ : ℕ) →
+    Finished run (Written (endingOf s line) out sent sent′) ⊥ ⊥ → Answers run a (accountOf ids tats taken′ sent′)
+unfolding Finished
+closed s line {ids} {tats} r none Ended out sent′ f =
+    ended r none (counted-as (ap (λ (l : List ℕ). length l) (ending-of s line ids tats)) (f .sent-is))
+closed s line r none Unended out sent′ f = absurd f
+closed s line r none TooLong out sent′ f = absurd f
+closed s line r none Unwritten out sent′ f = tt
+
+-- with the header in front
+module _ (a : Account) (lent : Lent (a .ids) (a .tats)) {sent : ℕ} (h : Counted (a .sent) (length header) sent) where
+  abbrev begun : Account
+  begun = accountOf (a .ids) (a .tats) (a .taken) sent
+
+  headed :
+      {least : ℕ} {text whole : List ℕ → List ℕ} {b : Account} → ((input : List ℕ) → header ++ text input ≡ whole input) →
+      Ran least text begun b → Ran least whole a b
+  headed {text = text} is ran =
+      record {
+        input = ran .input;
+        at-least = ran .at-least;
+        taken-is = ran .taken-is;
+        sent-is = counted-as
+            (sym (length-append header (text (ran .input))) ∙ ap (λ (l : List ℕ). length l) (is (ran .input)))
+            (counted-on h (ran .sent-is));
+        ids-are = ran .ids-are;
+        tats-are = ran .tats-are;
+      }
+
+  pub served : (run : Run) (b : Account) → Answers run begun b → Serves run a b
+  unfolding Finished
+  served Ended b f = headed (λ input. streamed (a .ids) (a .tats) input (lent .in-ids) (lent .in-tats)) f
+  served Unended b f = headed (λ input. refl) f
+  served TooLong b f = headed (λ input. refl) f
+  served Unwritten b f = tt

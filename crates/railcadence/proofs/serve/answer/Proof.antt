@@ -1,0 +1,106 @@
+-- `railcadence::serve::answer` meets its contract: what is said of a piece fits the output, and all of it is written.
+-- Assumes nothing.
+use mathlib.Core.Path.{refl, sym}
+use mathlib.Core.List.{List}
+use Prim.Native.Nat.{ℕ, _*_, _≤_}
+use native.Mathlib.Omega.{arith}
+use lib.ListN.{length, take, length-take}
+use lib.Seq.{length-take-le}
+use denote.Ref.{now}
+use borrow.Author.Needs.{needs}
+use Rattle.transcript.specs.Running.{stateOf}
+use Rattle.transcript.specs.Stream.{State, said, mostLine}
+use Rattle.railcadence.specs.Serving.{Onwards}
+use Rattle.railcadence.proofs.Suffices.{answers-fit}
+use Rattle.railcadence.proofs.Counting.{written}
+use Rattle.railcadence.proofs.serve.answer.Statement.{statement}
+use Rattle.railcadence.proofs.serve.answer.Tie as tie
+
+-- the state before the piece, the bytes that are fed, and that a line for each of them fits
+abbrev before : tie.Start → State
+before s = stateOf (s .args .session) (now (s .args .line)) (now (s .args .ids)) (now (s .args .tats))
+
+abbrev bytes : tie.Start → List ℕ
+bytes s = take (s .args .n) (now (s .args .piece))
+
+fits : (s : tie.Start) → mostLine * length (bytes s) ≤ length (now (s .args .out))
+fits s = omega (arith, length-take (s .args .n) (now (s .args .piece)), s .pre .1 .1 .0 .each-byte)
+
+slice-aggregate-feed : tie.Need-slice-aggregate-feed
+slice-aggregate-feed c =
+    let start = c .before .before .before .before .before .before in
+    sym (length-take-le _ (now (start .args .piece)) (omega (arith, start .pre .1 .1 .1)))
+
+feed-requires : tie.Need-feed-requires
+feed-requires c κs =
+    let start = c .before .before .before .before .before .before .before .before .before .before in
+    (start .pre .0, (start .pre .1 .0, answers-fit (before start) _ refl (omega (arith, fits start))))
+
+write-requires : tie.Need-write-requires
+write-requires c κs =
+    let out = c .before .before .before .before in
+    let fed = out .before .before .before .before .before .before .before in
+    let start = fed .before .before .before .before .before .before .before .before .before .before .before in
+    let within : fed .feed .result .at ≤ length (now (start .args .out)) =
+    answers-fit (before start) _ (fed .feed .ensures .at-is) (omega (arith, fits start)) in
+    omega (arith, out .out .given)
+
+same-length : tie.Need-same-length
+same-length c = search needs
+
+same-length-2 : tie.Need-same-length-2
+same-length-2 c = search needs
+
+same-length-3 : tie.Need-same-length-3
+same-length-3 c = search needs
+
+same-length-4 : tie.Need-same-length-4
+same-length-4 c = search needs
+
+returns : tie.Need-returns
+unfolding Onwards
+returns c =
+    let fed = c .before .before .before .before .before .before .before .before .before .before .before .before .before in
+    let start = fed .before .before .before .before .before .before .before .before .before .before .before in
+    let moved = fed .feed .ensures in
+    let counted = c .before .write .ensures (c .if1 .taken) in
+    let room = answers-fit (before start) (bytes start) refl (fits start) in
+    record {
+      state-is = moved .state-is;
+      written = written (said (before start) (bytes start)) (now (start .args .out)) room (moved .at-is) (moved .out-is) counted;
+      ready = moved .ready;
+    }
+
+same-length-5 : tie.Need-same-length-5
+same-length-5 c = search needs
+
+same-length-6 : tie.Need-same-length-6
+same-length-6 c = search needs
+
+same-length-7 : tie.Need-same-length-7
+same-length-7 c = search needs
+
+same-length-8 : tie.Need-same-length-8
+same-length-8 c = search needs
+
+returns-2 : tie.Need-returns-2
+unfolding Onwards
+returns-2 c = tt
+
+pub answer-spec : {M : Type 1} → statement M
+answer-spec =
+    tie.close
+    (tie.spec
+    slice-aggregate-feed
+    feed-requires
+    write-requires
+    same-length
+    same-length-2
+    same-length-3
+    same-length-4
+    returns
+    same-length-5
+    same-length-6
+    same-length-7
+    same-length-8
+    returns-2)

@@ -1,0 +1,30 @@
+-- `railcadence::serve::begin` meets its contract: the header is put to the output's start, and all of it is written.
+-- Assumes nothing.
+use native.Mathlib.Omega.{arith}
+use denote.Ref.{now}
+use borrow.Author.Needs.{needs}
+use Rattle.transcript.specs.Transcript.{header}
+use Rattle.railcadence.proofs.Counting.{written}
+use Rattle.railcadence.proofs.serve.begin.Statement.{statement}
+use Rattle.railcadence.proofs.serve.begin.Tie as tie
+
+put-header-requires : tie.Need-put-header-requires
+put-header-requires c κs = search needs
+
+write-requires : tie.Need-write-requires
+write-requires c κs = search needs
+
+same-length : tie.Need-same-length
+same-length c = search needs
+
+returns : tie.Need-returns
+returns c =
+    let put = c .before .before .before .before .before in
+    let start = put .before .before .before in
+    let header-put = put .put-header .ensures in
+    λ e.
+    written header (now (start .args .out)) (omega (arith, start .pre)) (omega (arith, header-put .0)) (header-put .1)
+    (c .write .ensures e)
+
+pub begin-spec : {M : Type 1} → statement M
+begin-spec = tie.close (tie.spec put-header-requires write-requires same-length returns)
