@@ -42,7 +42,7 @@
  *     what a clear makes. A subscriber without a slot gets the lowest free one when it is
  *     admitted. A slot is free if it is empty or its subscriber owes nothing any more, so a table
  *     needs as many slots as subscribers owe something at the same time. A call looks at the slots
- *     one by one, so it takes longer the more there are.
+ *     from the first on, so it takes longer the more there are.
  *
  *     Tats and levels are counted in ticks. A millisecond is `limit` ticks and a unit costs
  *     `period` ticks, so keep a table to one plan, and clear it before it serves another. Between

@@ -3,18 +3,18 @@
 ghost use mathlib.Core.Path.{_≡_};
 ghost use mathlib.Core.Bool.{false};
 ghost use Prim.Native.Nat.{ℕ};
-ghost use Rattle.rate.specs.declared.plan.Plan.{Plan};
+ghost use Rattle.ticks.specs.declared.plan.Plan.{Plan};
 ghost use Rattle.rate.specs.Answer.{verdictOf};
 ghost use Rattle.rate.specs.Decision.{Admitting};
 ghost use Rattle.rate.specs.Engine.{judge, report};
 ghost use Rattle.gcra.specs.Gcra.{gcra, sound, backlog, spend};
-ghost use Rattle.rate.specs.Grains.{InForce};
+ghost use Rattle.ticks.specs.Grains.{InForce};
 use rate::answer::Outcome;
 use rate::answer::Reason;
 use rate::decision;
-use rate::plan::Plan;
-use rate::units::Millis;
-use rate::units::Ticks;
+use ticks::plan::Plan;
+use ticks::units::Millis;
+use ticks::units::Ticks;
 
 // What is answered to an ask, and the TAT afterwards.
 pub struct Judgement {
@@ -30,7 +30,7 @@ pub fn fresh() -> Ticks
 }
 
 // What the record owes.
-pub fn backlog(plan: Plan, now: Millis, tat: Ticks) -> Ticks
+fn backlog(plan: Plan, now: Millis, tat: Ticks) -> Ticks
     ensures { λ r. ⌜ r .0 ≡ backlog plan (now .0) tat ⌝ }
 {
     let drained = plan.ticks_in(now);
@@ -41,7 +41,7 @@ pub fn backlog(plan: Plan, now: Millis, tat: Ticks) -> Ticks
 }
 
 // Whether the record is possible; if not, the answer is number 7.
-pub fn is_sound(plan: Plan, now: Millis, tat: Ticks) -> bool
+fn is_sound(plan: Plan, now: Millis, tat: Ticks) -> bool
     ensures { λ r. ⌜ r ≡ sound plan (now .0) tat ⌝ }
 {
     let owed = backlog(plan, now, tat);
@@ -66,7 +66,7 @@ pub fn may_be_free(plan: Plan, now: Millis, tat: Ticks) -> bool
 }
 
 // The record after a cost was admitted.
-pub fn spend(plan: Plan, now: Millis, tat: Ticks, cost: u32) -> Ticks
+fn spend(plan: Plan, now: Millis, tat: Ticks, cost: u32) -> Ticks
     requires { ⌜ Admitting plan (now .0) (backlog plan (now .0) tat) cost ⌝ }
     ensures { λ r. ⌜ r ≡ spend plan (now .0) tat cost ⌝ }
 {

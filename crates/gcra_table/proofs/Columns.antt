@@ -5,7 +5,7 @@ use Prim.Native.Nat.{ℕ, _≤_, _<_}
 use native.Mathlib.Omega.{arith}
 use lib.ListN.{length, replicate, length-set, length-replicate}
 use lib.Seq.{getD-set-same, getD-set-other}
-use Rattle.rate.specs.declared.units.Ticks.{Ticks}
+use Rattle.ticks.specs.declared.units.Ticks.{Ticks}
 use Rattle.table.specs.Slots.{common}
 use Rattle.table.proofs.Slots.{common-equal, common-same}
 use Rattle.table.proofs.Stored.{Stored}

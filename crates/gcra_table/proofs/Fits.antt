@@ -1,7 +1,7 @@
 -- What an acquire writes lies within the columns.
 -- Assumes nothing.
 use mathlib.Core.Path.{_≡_, sym, subst}
-use Rattle.rate.specs.declared.units.Ticks.{Ticks}
+use Rattle.ticks.specs.declared.units.Ticks.{Ticks}
 use Rattle.gcra.specs.Gcra.{gcra}
 use Rattle.table.specs.Request.{Request}
 use Rattle.table.specs.Rule.{ruleOf}

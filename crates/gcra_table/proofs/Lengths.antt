@@ -8,7 +8,7 @@ use Prim.Native.Nat.{ℕ}
 use lib.Dec.{eqb}
 use lib.ListN.{length, replicate, length-set}
 use borrow.Author.Tests.{eqb-true}
-use Rattle.rate.specs.declared.units.Ticks.{Ticks}
+use Rattle.ticks.specs.declared.units.Ticks.{Ticks}
 use Rattle.rate.specs.Answer.{answered}
 use Rattle.rate.specs.Decision.{bare}
 use Rattle.gcra.specs.Gcra.{gcra}

@@ -1,5 +1,5 @@
 -- Document 01's examples, all of them: the definitions give its answers, whatever the cleared slot held before.
--- It names definitions of `rate` on its `unfolding` line, as the one file above `rate` that computes with them.
+-- It names definitions of other crates on its `unfolding` line, as a worked example may.
 -- Assumes nothing.
 use mathlib.Core.Path.{_≡_, refl}
 use mathlib.Core.List.{[], _∷_}
@@ -8,7 +8,7 @@ use Rattle.rate.specs.Answer.{answered}
 use Rattle.rate.specs.Decision.{remaining, resetAt, retryAfter, bare, reported, admitted, throttled}
 use Rattle.rate.specs.Engine.{judge}
 use Rattle.gcra.specs.Gcra.{gcra, fresh, sound, free, later, backlog, admits, spend}
-use Rattle.rate.specs.Grains.{ticksIn, price, capacity, divUp, oneTo, planOk, onClock}
+use Rattle.ticks.specs.Grains.{ticksIn, price, capacity, divUp, oneTo, planOk, onClock}
 use Rattle.table.specs.Checks.{slotsOk, queryCheck, costCheck, requestCheck, guard}
 use Rattle.table.specs.Rule.{ruleOf}
 use Rattle.table.specs.Slots.{common, seekFrom, seek, carries, own, vacant, lowestFree}

@@ -3,7 +3,7 @@
 use Prim.Native.Nat.{ℕ, _<_}
 use mathlib.Core.List.{List}
 use lib.ListN.{length, getD, set, replicate}
-use Rattle.rate.specs.declared.units.Ticks.{Ticks}
+use Rattle.ticks.specs.declared.units.Ticks.{Ticks}
 use Rattle.rate.specs.Answer.{verdictOf}
 use Rattle.gcra.specs.Gcra.{gcra}
 use Rattle.table.specs.Request.{Query, Request}

@@ -3,7 +3,7 @@ ghost use mathlib.Core.Path.{_≡_};
 ghost use Rattle.rate.specs.Answer.{verdictOf, answered};
 ghost use Rattle.rate.specs.Engine.{judge};
 ghost use Rattle.gcra.specs.Gcra.{gcra};
-ghost use Rattle.rate.specs.Grains.{InForce};
+ghost use Rattle.ticks.specs.Grains.{InForce};
 ghost use Rattle.table.specs.Request.{requestOf};
 ghost use Rattle.table.specs.Rule.{ruleOf};
 ghost use Rattle.table.specs.Calls.{ruled, judgeCall, commit};
@@ -12,12 +12,12 @@ use crate::slot;
 use crate::slot::Slot;
 use rate::answer::Outcome;
 use rate::answer::Reason;
-use rate::plan::Plan;
-use rate::units::Millis;
-use rate::units::Ticks;
 use table::check;
 use table::check::Check;
 use table::columns;
+use ticks::plan::Plan;
+use ticks::units::Millis;
+use ticks::units::Ticks;
 
 // What is answered, and what is to be written.
 pub enum Ruling {

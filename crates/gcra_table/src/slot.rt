@@ -4,18 +4,18 @@ ghost use mathlib.Core.Bool.{_||_, false};
 ghost use Prim.Native.Nat.{_≤_};
 ghost use lib.Dec.{eqb};
 ghost use lib.ListN.{length};
-ghost use Rattle.rate.specs.Grains.{InForce};
+ghost use Rattle.ticks.specs.Grains.{InForce};
 ghost use Rattle.gcra.specs.Gcra.{gcra};
 ghost use Rattle.table.specs.Request.{queryOf};
 ghost use Rattle.table.specs.Rule.{ruleOf};
 ghost use Rattle.table.specs.Slots.{vacant, lowestFree, NoneFrom, NoneBelow};
 ghost use Rattle.table.specs.Calls.{slotFor};
 ghost use Rattle.gcra_table.specs.Table.{tableOf, columns, slotOf};
-use rate::plan::Plan;
-use rate::units::Millis;
-use rate::units::Ticks;
 use table::search;
 use table::search::Place;
+use ticks::plan::Plan;
+use ticks::units::Millis;
+use ticks::units::Ticks;
 
 // A slot's place and the record in it.
 pub enum Slot {

@@ -8,14 +8,14 @@ ghost use Rattle.table.specs.Rule.{ruleOf};
 ghost use Rattle.table.specs.Calls.{held, peekVerdict};
 ghost use Rattle.gcra_table.specs.Table.{tableOf, columns};
 use rate::answer::Outcome;
-use rate::plan::Plan;
-use rate::units::Millis;
-use rate::units::Ticks;
 use table::check;
 use table::check::Check;
 use table::columns;
 use table::search;
 use table::search::Place;
+use ticks::plan::Plan;
+use ticks::units::Millis;
+use ticks::units::Ticks;
 
 // The record of a subscriber, a fresh one if it has no slot.
 fn held(plan: Plan, ids: &[u32], tats: &[u64], moment: Millis, subscriber: u32) -> Ticks

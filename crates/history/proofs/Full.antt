@@ -9,10 +9,10 @@ use native.Mathlib.Omega.{arith}
 use lib.Dec.{eqb}
 use lib.ListN.{length}
 use borrow.Author.Tests.{eqb-true, eqb-false, ne-eqb, leb-true, le-leb, not-true}
-use Rattle.rate.specs.declared.plan.Plan.{Plan}
+use Rattle.ticks.specs.declared.plan.Plan.{Plan}
 use Rattle.rate.specs.Engine.{Engine}
 use Rattle.rate.proofs.Lawful.{Lawful}
-use Rattle.rate.proofs.Tests.{both}
+use Rattle.ticks.proofs.Tests.{both}
 use Rattle.table.specs.Request.{queryOf}
 use Rattle.table.specs.Rule.{ruleOf}
 use Rattle.table.specs.Slots.{Columns}

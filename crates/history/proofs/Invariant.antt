@@ -11,9 +11,9 @@ use native.Mathlib.Omega.{arith}
 use lib.ListN.{length, getD, set}
 use lib.Seq.{getD-set-same, getD-set-other, set-getD}
 use borrow.Author.Tests.{eqb-true, eqb-false, not-true, not-false}
-use Rattle.rate.specs.declared.plan.Plan.{Plan}
+use Rattle.ticks.specs.declared.plan.Plan.{Plan}
 use Rattle.rate.specs.Engine.{Engine}
-use Rattle.rate.specs.Grains.{ticksIn, price}
+use Rattle.ticks.specs.Grains.{ticksIn, price}
 use Rattle.rate.proofs.Lawful.{Lawful}
 use Rattle.table.specs.Checks.{slotsOk}
 use Rattle.table.specs.Slots.{Columns}

@@ -2,7 +2,7 @@
 -- Assumes nothing.
 use mathlib.Core.List.{List}
 use Prim.Native.Nat.{ℕ}
-use Rattle.rate.specs.declared.plan.Plan.{Plan}
+use Rattle.ticks.specs.declared.plan.Plan.{Plan}
 use Rattle.rate.specs.Life.{Ask, Rising, Agreement}
 use Rattle.rate.proofs.Life.{lives-agree}
 use Rattle.gcra.specs.Gcra.{gcra}

@@ -8,9 +8,9 @@ use Prim.Native.Nat.{ℕ, _+_, _-_, _≤_}
 use native.Mathlib.Omega.{arith}
 use lib.Dec.{eqb}
 use borrow.Author.Tests.{eq-eqb, ne-eqb, eqb-true}
-use Rattle.rate.specs.declared.plan.Plan.{Plan}
-use Rattle.rate.specs.Grains.{ticksIn, price}
-use Rattle.rate.proofs.Products.{ticks-split, price-add}
+use Rattle.ticks.specs.declared.plan.Plan.{Plan}
+use Rattle.ticks.specs.Grains.{ticksIn, price}
+use Rattle.ticks.proofs.Products.{ticks-split, price-add}
 use Rattle.history.specs.History.{Entry, callsOf, costs, debt, owed, member, names}
 use Rattle.history.proofs.Counting.{member-here, member-tail}
 

@@ -10,14 +10,14 @@ use native.Mathlib.Omega.{arith}
 use lib.Dec.{eqb}
 use borrow.Author.Tests.{eq-eqb, ne-eqb, ltb-false}
 use Rattle.rate.specs.declared.answer.Numbers.{Numbers}
-use Rattle.rate.specs.declared.plan.Plan.{Plan}
+use Rattle.ticks.specs.declared.plan.Plan.{Plan}
 use Rattle.rate.specs.Answer.{answered}
 use Rattle.rate.specs.Decision.{Verdict, admissible, bare, reported, admitted, throttled}
 use Rattle.rate.specs.Engine.{Engine}
-use Rattle.rate.specs.Grains.{onClock}
+use Rattle.ticks.specs.Grains.{onClock}
 use Rattle.rate.proofs.Cases.{report-sound}
 use Rattle.rate.proofs.Fresh.{burst-admissible, fresh-admits, nothing-owed}
-use Rattle.rate.proofs.Limits.{within-limits}
+use Rattle.ticks.proofs.Limits.{within-limits}
 use Rattle.rate.proofs.Lawful.{Lawful}
 use Rattle.table.specs.Request.{Request, queryOf, requestOf}
 use Rattle.table.specs.Checks.{slotsOk, queryCheck, requestCheck}

@@ -3,7 +3,7 @@
 use Prim.Native.Nat.{ℕ}
 use mathlib.Core.Path.{_≡_}
 use mathlib.Core.List.{List, []}
-use Rattle.rate.specs.declared.plan.Plan.{Plan}
+use Rattle.ticks.specs.declared.plan.Plan.{Plan}
 use Rattle.gcra.specs.Gcra.{gcra}
 use Rattle.token_bucket.specs.TokenBucket.{tokenBucket}
 use Rattle.table.specs.Rule.{ruleOf}

@@ -5,10 +5,10 @@ use mathlib.Core.Bool.{Bool, true, false, cond, not, _&&_}
 use mathlib.Core.List.{List, [], _∷_, _++_}
 use lib.Dec.{eqb, leb}
 use lib.ListN.{length}
-use Rattle.rate.specs.declared.plan.Plan.{Plan}
+use Rattle.ticks.specs.declared.plan.Plan.{Plan}
 use Rattle.rate.specs.Answer.{answered}
 use Rattle.rate.specs.Decision.{Verdict, admissible, bare, reported, admitted, throttled}
-use Rattle.rate.specs.Grains.{ticksIn, price}
+use Rattle.ticks.specs.Grains.{ticksIn, price}
 use Rattle.table.specs.Request.{Query, Request}
 use Rattle.table.specs.Checks.{queryCheck, requestCheck, guard}
 use Rattle.table.specs.Calls.{Step}

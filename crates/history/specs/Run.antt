@@ -4,8 +4,8 @@ use mathlib.Core.Path.{_≡_}
 use mathlib.Core.Bool.{true, cond}
 use mathlib.Core.List.{List, [], _∷_}
 use Rattle.rate.specs.declared.answer.Numbers.{Numbers}
-use Rattle.rate.specs.declared.plan.Plan.{Plan}
-use Rattle.rate.specs.Grains.{onClock}
+use Rattle.ticks.specs.declared.plan.Plan.{Plan}
+use Rattle.ticks.specs.Grains.{onClock}
 use Rattle.table.specs.Request.{Query, Request, queryOf, requestOf}
 use Rattle.table.specs.Rule.{Rule}
 use Rattle.table.specs.Slots.{Columns}

@@ -5,8 +5,8 @@ use mathlib.Core.Bool.{true, false}
 use Prim.Native.Nat.{ℕ}
 use lib.Dec.{eqb}
 use Rattle.rate.specs.declared.answer.Numbers.{Numbers}
-use Rattle.rate.specs.declared.plan.Plan.{Plan}
-use Rattle.rate.specs.Grains.{planOk}
+use Rattle.ticks.specs.declared.plan.Plan.{Plan}
+use Rattle.ticks.specs.Grains.{planOk}
 use Rattle.http.specs.declared.Fields.{Fields}
 use Rattle.http.specs.Fields.{seconds, silent, planned, reported, fieldsOf}
 

@@ -9,11 +9,11 @@ use lib.Dec.{eqb}
 use Rattle.rate.specs.Answer.{answered}
 use Rattle.rate.specs.Decision.{Verdict, reported}
 use Rattle.rate.specs.Engine.{Engine}
-use Rattle.rate.specs.Grains.{planOk, onClock}
+use Rattle.ticks.specs.Grains.{planOk, onClock}
 use Rattle.rate.proofs.Answers.{answered-left}
 use Rattle.rate.proofs.Cases.{report-sound}
 use Rattle.rate.proofs.Lawful.{Lawful}
-use Rattle.rate.proofs.Limits.{reported-left-most, admitted-left-most}
+use Rattle.rate.proofs.Left.{reported-left-most, admitted-left-most}
 use Rattle.rate.proofs.Look.{throttled-left}
 use Rattle.table.specs.Request.{Query, Request}
 use Rattle.table.specs.Rule.{ruleOf}

@@ -9,9 +9,9 @@ use native.Mathlib.Omega.{arith}
 use lib.Dec.{eqb}
 use borrow.Author.Tests.{eq-eqb, eqb-true}
 use Rattle.rate.specs.declared.answer.Numbers.{Numbers}
-use Rattle.rate.specs.declared.plan.Plan.{Plan}
-use Rattle.rate.specs.Grains.{capacity, divUp, planOk}
-use Rattle.rate.proofs.Rounding.{divUp-least}
+use Rattle.ticks.specs.declared.plan.Plan.{Plan}
+use Rattle.ticks.specs.Grains.{capacity, divUp, planOk}
+use Rattle.ticks.proofs.Rounding.{divUp-least}
 use Rattle.http.specs.Fields.{seconds, windowOf, silent, planned, reported, fieldsOf}
 use Rattle.http.proofs.Cases.{bad-plan, admitted, throttled, refused}
 

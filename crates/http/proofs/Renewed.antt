@@ -8,7 +8,7 @@ use Prim.Native.Nat.{ℕ, _+_, _-_, _*_, _≤_, _<_}
 use native.Mathlib.Nat.{lt-of-not-le}
 use native.Mathlib.Omega.{arith}
 use Rattle.rate.specs.Engine.{Engine}
-use Rattle.rate.specs.Grains.{planOk, onClock}
+use Rattle.ticks.specs.Grains.{planOk, onClock}
 use Rattle.rate.proofs.Lawful.{Lawful}
 use Rattle.table.specs.Request.{Query, Request}
 use Rattle.table.specs.Rule.{ruleOf}

@@ -5,8 +5,8 @@ use mathlib.Core.Path.{_≡_, refl}
 use mathlib.Core.List.{List, [], _∷_}
 use Prim.Native.Nat.{ℕ}
 use Rattle.rate.specs.declared.answer.Numbers.{Numbers}
-use Rattle.rate.specs.declared.plan.Plan.{Plan}
-use Rattle.rate.specs.Grains.{capacity, divUp, oneTo, planOk}
+use Rattle.ticks.specs.declared.plan.Plan.{Plan}
+use Rattle.ticks.specs.Grains.{capacity, divUp, oneTo, planOk}
 use Rattle.http.specs.declared.Fields.{Fields}
 use Rattle.http.specs.Fields.{seconds, windowOf, silent, planned, reported, fieldsOf}
 

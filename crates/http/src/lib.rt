@@ -9,9 +9,9 @@
 ghost use mathlib.Core.Path.{_≡_};
 ghost use Rattle.http.specs.Fields.{seconds, windowOf, silent, planned, reported, fieldsOf};
 use rate::answer::Numbers;
-use rate::plan::Plan;
-use rate::round;
-use rate::units::Millis;
+use ticks::plan::Plan;
+use ticks::round;
+use ticks::units::Millis;
 
 pub struct Fields {
     pub quota: u64,

@@ -8,11 +8,13 @@ use native.Mathlib.Nat.{add-zero}
 use native.Mathlib.Omega.{arith}
 use lib.ListN.{length, length-append}
 use Rattle.transcript.specs.declared.stream.Session.{Session}
-use Rattle.transcript.specs.Stream.{State, said, after, ending}
-use Rattle.transcript.specs.Running.{Lent, stateOf, started, endingOf}
-use Rattle.transcript.specs.Transcript.{header}
-use Rattle.transcript.proofs.Streamed.{said-append, after-append, streamed}
-use Rattle.transcript.proofs.Served.{said-none, after-none, ending-of}
+use Rattle.session.specs.Stream.{State, said, after, ending}
+use Rattle.session.specs.Session.{Lent}
+use Rattle.transcript.specs.Running.{stateOf, started, endingOf}
+use Rattle.gcra_table.specs.Table.{tableOf}
+use Rattle.protocol.specs.Reply.{header}
+use Rattle.session.proofs.Streamed.{said-none, after-none, said-append, after-append, streamed}
+use Rattle.session.proofs.LineEnds.{ending-any}
 use Rattle.railcadence.specs.declared.serve.Input.{Input}
 use Rattle.railcadence.specs.declared.serve.Input.the-variants.{Got, End, Failed}
 use Rattle.railcadence.specs.declared.serve.Answered.{Answered}
@@ -54,12 +56,12 @@ pub record Reached (a : Account) (turns : ℕ) (σ : State) (taken sent : ℕ) :
 
 pub reached-start :
     (a : Account) {turns : ℕ} {s : Session} (line : List ℕ) → tooLong ≤ turns → s ≡ started →
-    Reached a turns (stateOf s line (a .ids) (a .tats)) (a .taken) (a .sent)
+    Reached a turns (stateOf s line (a .table .ids) (a .table .tats)) (a .taken) (a .sent)
 reached-start a line h e =
     record {
       input = [];
       turned = omega arith;
-      state-is = ap (λ (x : Session). stateOf x line (a .ids) (a .tats)) e ∙ sym (after-none (startOf a));
+      state-is = ap (λ (x : Session). stateOf x line (a .table .ids) (a .table .tats)) e ∙ sym (after-none (startOf a));
       taken-is = counted-none (a .taken);
       sent-is = counted-as (ap (λ (l : List ℕ). length l) (sym (said-none (startOf a)))) (counted-none (a .sent));
     }
@@ -88,25 +90,24 @@ module _ {a : Account} {turns : ℕ} {σ : State} {taken sent : ℕ} (r : Reache
   module _ {taken′ : ℕ} (none : Counted taken 0 taken′) where
     stopped :
         (text : List ℕ → List ℕ) {least sent′ : ℕ} → least ≤ length (r .input) → Counted (a .sent) (length (text (r .input))) sent′ →
-        Ran least text a (accountOf (σ .ids) (σ .tats) taken′ sent′)
+        Ran least text a (accountOf (σ .table .ids) (σ .table .tats) taken′ sent′)
     stopped text h c =
         record {
           input = r .input;
           at-least = h;
           taken-is = counted-as (add-zero (length (r .input))) (counted-on (r .taken-is) none);
           sent-is = c;
-          ids-are = ap (λ (x : State). x .ids) (r .state-is);
-          tats-are = ap (λ (x : State). x .tats) (r .state-is);
+          table-is = ap (λ (x : State). x .table) (r .state-is);
         }
 
     pub unended :
         {least : ℕ} → least ≤ length (r .input) →
-        Ran least (λ input. said (startOf a) input) a (accountOf (σ .ids) (σ .tats) taken′ sent)
+        Ran least (λ input. said (startOf a) input) a (accountOf (σ .table .ids) (σ .table .tats) taken′ sent)
     unended h = stopped (λ input. said (startOf a) input) h (r .sent-is)
 
     ended :
         {sent′ : ℕ} → Counted sent (length (ending σ)) sent′ →
-        Ran 0 (λ input. said (startOf a) input ++ ending (after (startOf a) input)) a (accountOf (σ .ids) (σ .tats) taken′ sent′)
+        Ran 0 (λ input. said (startOf a) input ++ ending (after (startOf a) input)) a (accountOf (σ .table .ids) (σ .table .tats) taken′ sent′)
     ended c =
         let so-far = said (startOf a) (r .input) in
         stopped (λ input. said (startOf a) input ++ ending (after (startOf a) input)) (omega arith)
@@ -122,15 +123,15 @@ pub closed :
     Finished run (Written (endingOf s line) out sent sent′) ⊥ ⊥ → Answers run a (accountOf ids tats taken′ sent′)
 unfolding Finished
 closed s line {ids} {tats} r none Ended out sent′ f =
-    ended r none (counted-as (ap (λ (l : List ℕ). length l) (ending-of s line ids tats)) (f .sent-is))
+    ended r none (counted-as (ap (λ (l : List ℕ). length l) (ending-any (stateOf s line [] []) (tableOf ids tats))) (f .sent-is))
 closed s line r none Unended out sent′ f = absurd f
 closed s line r none TooLong out sent′ f = absurd f
 closed s line r none Unwritten out sent′ f = tt
 
 -- with the header in front
-module _ (a : Account) (lent : Lent (a .ids) (a .tats)) {sent : ℕ} (h : Counted (a .sent) (length header) sent) where
+module _ (a : Account) (lent : Lent (a .table .ids) (a .table .tats)) {sent : ℕ} (h : Counted (a .sent) (length header) sent) where
   abbrev begun : Account
-  begun = accountOf (a .ids) (a .tats) (a .taken) sent
+  begun = accountOf (a .table .ids) (a .table .tats) (a .taken) sent
 
   headed :
       {least : ℕ} {text whole : List ℕ → List ℕ} {b : Account} → ((input : List ℕ) → header ++ text input ≡ whole input) →
@@ -143,13 +144,12 @@ module _ (a : Account) (lent : Lent (a .ids) (a .tats)) {sent : ℕ} (h : Counte
         sent-is = counted-as
             (sym (length-append header (text (ran .input))) ∙ ap (λ (l : List ℕ). length l) (is (ran .input)))
             (counted-on h (ran .sent-is));
-        ids-are = ran .ids-are;
-        tats-are = ran .tats-are;
+        table-is = ran .table-is;
       }
 
   pub served : (run : Run) (b : Account) → Answers run begun b → Serves run a b
   unfolding Finished
-  served Ended b f = headed (λ input. streamed (a .ids) (a .tats) input (lent .in-ids) (lent .in-tats)) f
+  served Ended b f = headed (λ input. streamed (a .table .ids) (a .table .tats) input (lent .in-ids) (lent .in-tats)) f
   served Unended b f = headed (λ input. refl) f
   served TooLong b f = headed (λ input. refl) f
   served Unwritten b f = tt

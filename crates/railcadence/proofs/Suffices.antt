@@ -6,15 +6,17 @@ use Prim.Native.Nat.{ℕ, _+_, _*_, _≤_}
 use native.Mathlib.Omega.{arith}
 use lib.ListN.{length}
 use Rattle.transcript.specs.declared.stream.Session.{Session}
-use Rattle.transcript.specs.Stream.{State, said, mostLine}
-use Rattle.transcript.specs.Running.{Lent, stateOf, endingOf}
-use Rattle.transcript.proofs.Lengths.{said-most, ending-most, endings-most}
+use Rattle.session.specs.Stream.{State, said}
+use Rattle.protocol.specs.Reply.{mostReply}
+use Rattle.session.specs.Session.{Lent}
+use Rattle.transcript.specs.Running.{stateOf, endingOf}
+use Rattle.session.proofs.Lengths.{said-most, ending-most, endings-most}
 
 -- what is said of some bytes fits, and what is said at the input's end
-pub answers-fit : (σ : State) (bytes : List ℕ) {n room : ℕ} → n ≡ 0 + length (said σ bytes) → mostLine * length bytes ≤ room → n ≤ room
+pub answers-fit : (σ : State) (bytes : List ℕ) {n room : ℕ} → n ≡ 0 + length (said σ bytes) → mostReply * length bytes ≤ room → n ≤ room
 answers-fit σ bytes e h = omega (arith, said-most σ bytes, endings-most bytes)
 
-pub end-fits : (s : Session) (line out : List ℕ) → mostLine ≤ length out → 0 + length (endingOf s line) ≤ length out
+pub end-fits : (s : Session) (line out : List ℕ) → mostReply ≤ length out → 0 + length (endingOf s line) ≤ length out
 end-fits s line out h = omega (arith, ending-most (stateOf s line [] []))
 
 -- buffers of the same lengths

@@ -3,10 +3,13 @@ use mathlib.Core.Path.{_≡_}
 use mathlib.Core.List.{List, _++_}
 use Prim.Native.Nat.{ℕ, _+_, _-_, _*_, _%_, _^_, _≤_}
 use lib.ListN.{length, take}
+use Rattle.gcra_table.specs.Table.{Table, tableOf}
 use Rattle.transcript.specs.declared.stream.Session.{Session}
 use Rattle.transcript.specs.Running.{Ready, stateOf}
-use Rattle.transcript.specs.Stream.{State, said, after, ending, start, mostLine}
-use Rattle.transcript.specs.Transcript.{header, transcript}
+use Rattle.session.specs.Stream.{State, said, after, ending, start}
+use Rattle.protocol.specs.Reply.{mostReply}
+use Rattle.protocol.specs.Reply.{header}
+use Rattle.session.specs.Transcript.{transcript}
 use Rattle.railcadence.specs.declared.serve.Input.{Input}
 use Rattle.railcadence.specs.declared.serve.Input.the-variants.{Got, End, Failed}
 use Rattle.railcadence.specs.declared.serve.Answered.{Answered}
@@ -16,8 +19,8 @@ use Rattle.railcadence.specs.declared.serve.Run.the-variants.{Ended, Une
 
 -- the output has room for the answers to a piece each of whose bytes ends a line
 pub record Ample (piece out : List ℕ) : Type 0 where
-  pub each-byte : mostLine * length piece ≤ length out
-  pub one-line : mostLine ≤ length out
+  pub each-byte : mostReply * length piece ≤ length out
+  pub one-line : mostReply ≤ length out
 
 -- a count has grown by n bytes; counts are kept modulo 2^64
 pub record Counted (count n count′ : ℕ) : Type 0 where
@@ -55,17 +58,16 @@ Finished Unwritten ended unended long = Unit {0}
 
 -- what a run changes: the columns, and how many bytes were read and written
 pub record Account : Type 0 where
-  pub ids : List ℕ
-  pub tats : List ℕ
+  pub table : Table
   pub taken : ℕ
   pub sent : ℕ
 
 abbrev pub accountOf : List ℕ → List ℕ → ℕ → ℕ → Account
-accountOf ids tats taken sent = record { ids = ids; tats = tats; taken = taken; sent = sent }
+accountOf ids tats taken sent = record { table = tableOf ids tats; taken = taken; sent = sent }
 
 -- the state before the first byte
 abbrev pub startOf : Account → State
-startOf a = start (a .ids) (a .tats)
+startOf a = start (a .table .ids) (a .table .tats)
 
 -- there is an input, not shorter than this, of as many bytes as were read, which leaves the columns as they are, and as many
 -- bytes were written as this text of it has
@@ -74,8 +76,7 @@ pub record Ran (least : ℕ) (text : List ℕ → List ℕ) (a b : Account) : Ty
   pub at-least : least ≤ length input
   pub taken-is : Counted (a .taken) (length input) (b .taken)
   pub sent-is : Counted (a .sent) (length (text input)) (b .sent)
-  pub ids-are : b .ids ≡ after (startOf a) input .ids
-  pub tats-are : b .tats ≡ after (startOf a) input .tats
+  pub table-is : b .table ≡ after (startOf a) input .table
 
 -- an input of so many bytes is too long
 abbrev pub tooLong : ℕ

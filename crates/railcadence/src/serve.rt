@@ -4,17 +4,18 @@ ghost use mathlib.Core.Path.{_≡_};
 ghost use mathlib.Core.Bool.{true};
 ghost use Prim.Native.Nat.{_≤_};
 ghost use lib.ListN.{length, take};
-ghost use Rattle.transcript.specs.Running.{Lent, Ready, stateOf, endingOf};
-ghost use Rattle.transcript.specs.Stream.{mostLine};
-ghost use Rattle.transcript.specs.Transcript.{header};
+ghost use Rattle.session.specs.Session.{Lent};
+ghost use Rattle.transcript.specs.Running.{Ready, stateOf, endingOf};
+ghost use Rattle.protocol.specs.Command.{mostLine};
+ghost use Rattle.protocol.specs.Reply.{header, mostReply};
 ghost use Rattle.railcadence.specs.Serving.{Ample, Counted, Took, Written, Onwards, Finished, accountOf, Answers, Serves};
 use libc::STDERR_FILENO;
 use libc::STDIN_FILENO;
 use libc::STDOUT_FILENO;
+use protocol::reply;
 use std::num::wrapping_add_u64;
 use transcript::stream;
 use transcript::stream::Session;
-use transcript::whole;
 
 // What a read led to: so many bytes stand at the start of the piece, or the input has ended, or it cannot be read.
 enum Input {
@@ -80,7 +81,7 @@ fn begin(out: &mut [u8], sent: &mut u64) -> bool
     requires { ⌜ length header ≤ length (now out) ⌝ }
     ensures { λ r. ⌜ (r ≡ true → Written header (now (out .exit)) (now (sent .entry)) (now (sent .exit))) ⌝ }
 {
-    let end = whole::put_header(out);
+    let end = reply::put_header(out);
     write(out, end, sent)
 }
 
@@ -113,7 +114,7 @@ fn answer(
 // The input's end: what is said there written.
 fn close(session: Session, line: &[u8], out: &mut [u8], sent: &mut u64) -> Run
     requires { ⌜ Ready session (now line) ⌝ }
-    requires { ⌜ mostLine ≤ length (now out) ⌝ }
+    requires { ⌜ mostReply ≤ length (now out) ⌝ }
     ensures { λ r. ⌜ Finished r
         (Written (endingOf session (now (line .entry))) (now (out .exit)) (now (sent .entry)) (now (sent .exit))) ⊥ ⊥ ⌝ }
 {
@@ -135,7 +136,7 @@ fn pieces(
     taken: &mut u64,
     sent: &mut u64,
 ) -> Run
-    requires { ⌜ 127 ≤ length (now line) ⌝ }
+    requires { ⌜ mostLine ≤ length (now line) ⌝ }
     requires { ⌜ Lent (now ids) (now tats) ⌝ }
     requires { ⌜ Ample (now piece) (now out) ⌝ }
     ensures { λ r. ⌜ Answers r (accountOf (now (ids .entry)) (now (tats .entry)) (now (taken .entry)) (now (sent .entry)))
@@ -172,7 +173,7 @@ pub fn serve(
     taken: &mut u64,
     sent: &mut u64,
 ) -> Run
-    requires { ⌜ 127 ≤ length (now line) ⌝ }
+    requires { ⌜ mostLine ≤ length (now line) ⌝ }
     requires { ⌜ Lent (now ids) (now tats) ⌝ }
     requires { ⌜ Ample (now piece) (now out) ⌝ }
     ensures { λ r. ⌜ Serves r (accountOf (now (ids .entry)) (now (tats .entry)) (now (taken .entry)) (now (sent .entry)))

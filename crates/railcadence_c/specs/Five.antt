@@ -2,7 +2,7 @@
 use Prim.Native.Nat.{ℕ}
 use mathlib.Core.List.{List, [], _∷_}
 use Rattle.rate.specs.declared.answer.Numbers.{Numbers}
-use Rattle.rate.specs.declared.plan.Plan.{Plan}
+use Rattle.ticks.specs.declared.plan.Plan.{Plan}
 
 unfoldable pub five : Numbers → List ℕ
 five n = n .number ∷ n .subscriber ∷ n .left ∷ n .reset ∷ n .wait ∷ []

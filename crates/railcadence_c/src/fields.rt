@@ -5,8 +5,8 @@ ghost use Rattle.railcadence_c.specs.Five.{planOf};
 ghost use Rattle.railcadence_c.specs.Told.{numbersIn, told};
 use http::Fields;
 use rate::answer::Numbers;
-use rate::plan::Plan;
-use rate::units::Millis;
+use ticks::plan::Plan;
+use ticks::units::Millis;
 
 // The fields in the order in which a host receives them.
 fn told(fields: Fields) -> [u64; 5]

@@ -4,8 +4,8 @@ ghost use Rattle.table.specs.Request.{queryOf, requestOf};
 ghost use Rattle.gcra_table.specs.Table.{tableOf, acquire, peek, clear};
 ghost use Rattle.railcadence_c.specs.Five.{five, planOf};
 use crate::five;
-use rate::plan::Plan;
-use rate::units::Millis;
+use ticks::plan::Plan;
+use ticks::units::Millis;
 
 // ask
 #[no_mangle]

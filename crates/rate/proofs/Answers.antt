@@ -3,14 +3,13 @@
 use mathlib.Core.Path.{_≡_, refl, ap, _∙_}
 use mathlib.Core.Bool.{false}
 use lib.Dec.{eqb}
-use Prim.Native.Nat.{ℕ, _+_}
+use Prim.Native.Nat.{ℕ}
 use Rattle.rate.specs.declared.answer.Cleared.the-variants.{Done, BadTable as Unfit}
 use Rattle.rate.specs.declared.answer.Outcome.{Outcome}
 use Rattle.rate.specs.declared.answer.Outcome.the-variants.{Refused}
 use Rattle.rate.specs.declared.answer.Reason.{Reason}
 use Rattle.rate.specs.declared.answer.Reason.the-variants.{BadPlan, BadTable, LateMoment, NoSubscriber, ZeroCost, CostAboveBurst, CorruptRecord, TableFull}
-use Rattle.rate.specs.declared.plan.Plan.{Plan}
-use Rattle.rate.specs.Grains.{price}
+use Rattle.ticks.specs.declared.plan.Plan.{Plan}
 use Rattle.rate.specs.Decision.{Verdict, bare, reported, admitted, throttled, resetAt, retryAfter}
 use Rattle.rate.specs.Answer.{reasonNumber, verdictOf, answered, numbersOf, clearedNumbers}
 

@@ -3,7 +3,7 @@
 use mathlib.Core.Path.{_≡_}
 use mathlib.Core.Bool.{true, false}
 use Prim.Native.Nat.{ℕ}
-use Rattle.rate.specs.declared.plan.Plan.{Plan}
+use Rattle.ticks.specs.declared.plan.Plan.{Plan}
 use Rattle.rate.specs.Decision.{bare, admitted, throttled, reported}
 use Rattle.rate.specs.Engine.{Engine, judge, report}
 

@@ -7,13 +7,13 @@ use Prim.Native.Nat.{ℕ, _+_, _≤_}
 use native.Mathlib.Nat.{sub-zero, mul-div-right}
 use native.Mathlib.Omega.{arith}
 use borrow.Author.Tests.{le-leb}
-use Rattle.rate.specs.declared.plan.Plan.{Plan}
-use Rattle.rate.specs.Grains.{price, capacity}
+use Rattle.ticks.specs.declared.plan.Plan.{Plan}
+use Rattle.ticks.specs.Grains.{price, capacity}
 use Rattle.rate.specs.Decision.{admissible, remaining, reported}
 use Rattle.rate.specs.Engine.{Engine, report}
 use Rattle.rate.proofs.Cases.{report-sound}
 use Rattle.rate.proofs.Lawful.{Lawful}
-use Rattle.rate.proofs.Limits.{price-within}
+use Rattle.ticks.proofs.Limits.{capacity-is, price-within}
 use Rattle.rate.proofs.Reset.{reset-of-nothing}
 
 pub burst-admissible : (p : Plan) (cost : ℕ) → cost ≤ p .burst → admissible p 0 cost ≡ true
@@ -25,8 +25,8 @@ burst-admissible p cost h =
 
 pub nothing-owed :
     (p : Plan) (at : ℕ) → 1 ≤ p .period → reported p at 0 ≡ record { number = 0; left = p .burst; reset = at; wait = 0 }
-unfolding reported remaining capacity
-nothing-owed p at unit = simp (sub-zero, mul-div-right (p .burst) unit, reset-of-nothing p at)
+unfolding reported remaining
+nothing-owed p at unit = simp (sub-zero, capacity-is p, mul-div-right (p .burst) unit, reset-of-nothing p at)
 
 module _ {R : Type 0} {E : Engine R} (L : Lawful E) (p : Plan) (at : ℕ) where
   pub fresh-admits : (cost : ℕ) → cost ≤ p .burst → E .admits p at (E .fresh p at) cost ≡ true

@@ -7,10 +7,10 @@ use Prim.Native.Nat.{ℕ, _≤_}
 use borrow.Author.Tests.{leb-true, leb-false, not-true, not-false}
 use Rattle.rate.specs.declared.answer.Outcome.the-variants.{Refused}
 use Rattle.rate.specs.declared.answer.Reason.the-variants.{CorruptRecord}
-use Rattle.rate.specs.declared.plan.Plan.{Plan}
+use Rattle.ticks.specs.declared.plan.Plan.{Plan}
 use Rattle.rate.specs.Answer.{verdictOf}
 use Rattle.rate.proofs.Answers.{corrupt}
-use Rattle.rate.specs.Grains.{capacity, InForce}
+use Rattle.ticks.specs.Grains.{capacity, InForce}
 use Rattle.rate.specs.Decision.{Verdict, admitted, throttled, reported, admissible, Owing, Admitting, Throttling}
 use Rattle.rate.specs.Engine.{Engine, judge, report}
 use Rattle.rate.proofs.Cases.{judge-corrupt, judge-admitted, judge-throttled, report-corrupt, report-sound}

@@ -1,9 +1,6 @@
 -- The laws of this crate, lowest first. What stands above the crate cites these and no definition's text.
-pub mod Tests
 pub mod Answers
-pub mod Rounding
-pub mod Limits
-pub mod Products
+pub mod Left
 pub mod Lawful
 pub mod Cases
 pub mod Judging

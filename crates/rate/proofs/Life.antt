@@ -6,8 +6,8 @@ use mathlib.Core.Path.{_≡_, refl, ap, ap₂, sym, _∙_}
 use mathlib.Core.Bool.{Bool, true, false}
 use mathlib.Core.List.{List, [], _∷_}
 use Prim.Native.Nat.{ℕ, _+_, _-_, _≤_}
-use Rattle.rate.specs.declared.plan.Plan.{Plan}
-use Rattle.rate.specs.Grains.{ticksIn, price}
+use Rattle.ticks.specs.declared.plan.Plan.{Plan}
+use Rattle.ticks.specs.Grains.{ticksIn, price}
 use Rattle.rate.specs.Decision.{admissible, admitted, throttled}
 use Rattle.rate.specs.Engine.{Engine, Judged, judge}
 use Rattle.rate.specs.Life.{Ask, Rising, newest, lived, verdicts, Agreement}

@@ -6,13 +6,13 @@ use Prim.Native.Nat.{ℕ, _+_}
 use native.Mathlib.Nat.{add-zero}
 use native.Mathlib.Omega.{arith}
 use borrow.Author.Tests.{le-leb}
-use Rattle.rate.specs.declared.plan.Plan.{Plan}
-use Rattle.rate.specs.Grains.{price, capacity}
+use Rattle.ticks.specs.declared.plan.Plan.{Plan}
+use Rattle.ticks.specs.Grains.{price, capacity}
 use Rattle.rate.specs.Decision.{admissible, reported, admitted, throttled}
 use Rattle.rate.specs.Engine.{Engine, judge, report}
 use Rattle.rate.proofs.Cases.{judge-corrupt, judge-admitted, report-corrupt, report-sound}
 use Rattle.rate.proofs.Lawful.{Lawful}
-use Rattle.rate.proofs.Products.{price-none}
+use Rattle.ticks.proofs.Products.{price-none}
 
 -- nothing costs nothing
 admitted-none : (p : Plan) (at backlog : ℕ) → admitted p at backlog 0 ≡ reported p at backlog

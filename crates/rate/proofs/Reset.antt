@@ -7,14 +7,14 @@ use Prim.Native.Nat.{ℕ, zero, suc, _+_, _-_, _≤_, _<_}
 use native.Mathlib.Omega.{arith}
 use lib.Dec.{leb, eqb}
 use borrow.Author.Tests.{le-leb, lt-leb, ne-eqb}
-use Rattle.rate.specs.declared.plan.Plan.{Plan}
-use Rattle.rate.specs.Grains.{price, capacity, divUp}
+use Rattle.ticks.specs.declared.plan.Plan.{Plan}
+use Rattle.ticks.specs.Grains.{price, capacity, divUp}
 use Rattle.rate.specs.Decision.{admissible, resetAt, retryAfter}
 use Rattle.rate.specs.Engine.{Engine}
 use Rattle.rate.proofs.Lawful.{Lawful}
-use Rattle.rate.proofs.Limits.{capacity-is-price}
-use Rattle.rate.proofs.Rounding.{divUp-zero}
-use Rattle.rate.proofs.Tests.{leb-same}
+use Rattle.ticks.proofs.Limits.{capacity-is-price}
+use Rattle.ticks.proofs.Rounding.{divUp-zero}
+use Rattle.ticks.proofs.Tests.{leb-same}
 use Rattle.rate.proofs.Wait.{least-wait}
 
 -- a whole burst is admitted exactly where nothing is owed

@@ -7,14 +7,14 @@ use native.Mathlib.Nat.{add-sub-cancel-left, lt-of-not-le}
 use native.Mathlib.Omega.{arith}
 use lib.Dec.{leb}
 use borrow.Author.Tests.{leb-false}
-use Rattle.rate.specs.declared.plan.Plan.{Plan}
-use Rattle.rate.specs.Grains.{ticksIn, price, capacity, divUp}
+use Rattle.ticks.specs.declared.plan.Plan.{Plan}
+use Rattle.ticks.specs.Grains.{ticksIn, price, capacity, divUp}
 use Rattle.rate.specs.Decision.{admissible, retryAfter}
 use Rattle.rate.specs.Engine.{Engine}
 use Rattle.rate.proofs.Lawful.{Lawful}
-use Rattle.rate.proofs.Limits.{price-within}
-use Rattle.rate.proofs.Rounding.{divUp-least, divUp-mono}
-use Rattle.rate.proofs.Tests.{leb-same}
+use Rattle.ticks.proofs.Limits.{ticks-are, price-within}
+use Rattle.ticks.proofs.Rounding.{divUp-least, divUp-mono}
+use Rattle.ticks.proofs.Tests.{leb-same}
 
 -- what the wait is, of a backlog
 module _ (p : Plan) (backlog cost : ℕ) (rate : 1 ≤ p .limit) where
@@ -34,11 +34,12 @@ module _ (p : Plan) (backlog cost : ℕ) (rate : 1 ≤ p .limit) where
 
   -- a backlog that has drained for k ms has room for the cost exactly if the wait is at most k
   drained-admits : cost ≤ p .burst → (k : ℕ) → admissible p (backlog - ticksIn p k) cost ≡ leb (retryAfter p backlog cost) k
-  unfolding admissible retryAfter ticksIn
+  unfolding admissible retryAfter
   drained-admits h k =
+      let passed = ticks-are p k in
       let fits = price-within p cost h in
       let least = divUp-least (backlog + price p cost - capacity p) (p .limit) k rate in
-      leb-same (backlog - k * p .limit + price p cost) (capacity p) (divUp (backlog + price p cost - capacity p) (p .limit)) k
+      leb-same (backlog - ticksIn p k + price p cost) (capacity p) (divUp (backlog + price p cost - capacity p) (p .limit)) k
       (λ a. least .1 (omega arith)) (λ a. let b = least .0 a in omega arith)
 
 -- the wait is the least: with the record untouched, the same ask k ms later is admitted exactly if the wait is at most k

@@ -2,7 +2,7 @@
 -- bucket are two values of `Engine`; what follows from the formulas alone is said once, over any of them.
 use Prim.Native.Nat.{ℕ}
 use mathlib.Core.Bool.{Bool, cond}
-use Rattle.rate.specs.declared.plan.Plan.{Plan}
+use Rattle.ticks.specs.declared.plan.Plan.{Plan}
 use Rattle.rate.specs.Decision.{Verdict, bare, reported, admitted, throttled}
 
 -- R is what is stored for one subscriber; each formula is of a plan and a moment

@@ -2,7 +2,7 @@
 use Prim.Native.Nat.{ℕ, _≤_}
 use mathlib.Core.Path.{_≡_}
 use mathlib.Core.List.{List, [], _∷_}
-use Rattle.rate.specs.declared.plan.Plan.{Plan}
+use Rattle.ticks.specs.declared.plan.Plan.{Plan}
 use Rattle.rate.specs.Decision.{Verdict}
 use Rattle.rate.specs.Engine.{Engine, judge}
 

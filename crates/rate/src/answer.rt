@@ -3,7 +3,7 @@ ghost use mathlib.Core.Path.{_≡_};
 ghost use lib.Dec.{eqb};
 ghost use Rattle.rate.specs.Answer.{reasonNumber, verdictOf, answered, numbersOf, clearedNumbers};
 ghost use Rattle.rate.specs.Decision.{bare};
-use crate::units::Millis;
+use ticks::units::Millis;
 
 // Why a request is refused, in the order of the checks.
 pub enum Reason {

@@ -1,8 +1,6 @@
 // Lines of tabbed numbers on standard output.
-use rate::answer::Answer;
 use rate::answer::Numbers;
-use rate::answer::Outcome;
-use rate::plan::Plan;
+use ticks::plan::Plan;
 
 const STDOUT: i32 = 1;
 
@@ -38,19 +36,6 @@ pub fn plan(p: Plan) {
     number(p.limit as u64);
     number(p.period as u64);
     number(p.burst as u64);
-}
-
-// Number, left, reset and wait.
-pub fn outcome(o: Outcome) {
-    let a = Answer {
-        subscriber: 0,
-        outcome: o,
-    };
-    let n = a.to_numbers();
-    number(n.number);
-    number(n.left);
-    number(n.reset);
-    number(n.wait);
 }
 
 // The five numbers of an answer, and the line's end.

@@ -7,9 +7,9 @@ use Prim.Native.Nat.{ℕ, zero, suc, _≤_}
 use native.Mathlib.Omega.{arith}
 use lib.Dec.{eqb, leb, ltb}
 use borrow.Author.Tests.{le-leb, lt-leb, leb-true, eq-eqb, ne-eqb}
-use Rattle.rate.specs.Grains.{planOk, onClock, InForce}
-use Rattle.rate.proofs.Limits.{in-force}
-use Rattle.rate.proofs.Tests.{both}
+use Rattle.ticks.specs.Grains.{planOk, onClock, InForce}
+use Rattle.ticks.proofs.Limits.{in-force}
+use Rattle.ticks.proofs.Tests.{both}
 use Rattle.table.specs.Request.{Query, Request}
 use Rattle.table.specs.Checks.{mostSlots, slotsOk, queryCheck, costCheck, requestCheck, guard}
 

@@ -18,7 +18,7 @@ use Rattle.rate.proofs.Answers.{answered-left, answered-reset}
 use Rattle.rate.proofs.Cases.{report-sound}
 use Rattle.rate.proofs.Fresh.{fresh-report, fresh-admits}
 use Rattle.rate.proofs.Lawful.{Lawful}
-use Rattle.rate.proofs.Limits.{within-limits}
+use Rattle.ticks.proofs.Limits.{within-limits}
 use Rattle.rate.proofs.Look.{look-is-free-ask, look-after, throttled-left, throttled-reset}
 use Rattle.table.specs.Request.{Query, Request}
 use Rattle.table.specs.Checks.{queryCheck, guard}

@@ -13,11 +13,11 @@ use Rattle.rate.specs.declared.answer.Numbers.{Numbers}
 use Rattle.rate.specs.Answer.{answered}
 use Rattle.rate.specs.Decision.{Verdict, reported, resetAt}
 use Rattle.rate.specs.Engine.{Engine}
-use Rattle.rate.specs.Grains.{onClock}
+use Rattle.ticks.specs.Grains.{onClock}
 use Rattle.rate.proofs.Answers.{answered-reset, reported-reset}
 use Rattle.rate.proofs.Cases.{report-sound}
 use Rattle.rate.proofs.Lawful.{Lawful}
-use Rattle.rate.proofs.Limits.{within-limits}
+use Rattle.ticks.proofs.Limits.{within-limits}
 use Rattle.rate.proofs.Reset.{reset-from, burst-from-reset, drained-from-reset}
 use Rattle.table.specs.Request.{Query, Request, queryOf, requestOf}
 use Rattle.table.specs.Rule.{ruleOf}

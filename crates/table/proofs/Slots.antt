@@ -9,7 +9,7 @@ use lib.Dec.{eqb}
 use lib.ListN.{getD}
 use borrow.Author.Tests.{eq-eqb, ne-eqb, eqb-true, eqb-false}
 use Rattle.rate.specs.Engine.{Engine}
-use Rattle.rate.proofs.Tests.{neither}
+use Rattle.ticks.proofs.Tests.{neither}
 use Rattle.table.specs.Request.{Query}
 use Rattle.table.specs.Rule.{ruleOf}
 use Rattle.table.specs.Slots.{Columns, common, carries, vacant, NoneFrom}

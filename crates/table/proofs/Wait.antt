@@ -9,10 +9,10 @@ use lib.Dec.{leb}
 use borrow.Author.Tests.{le-leb, lt-leb, ltb-false}
 use Rattle.rate.specs.Decision.{retryAfter}
 use Rattle.rate.specs.Engine.{Engine}
-use Rattle.rate.specs.Grains.{price, divUp, onClock}
+use Rattle.ticks.specs.Grains.{price, divUp, onClock}
 use Rattle.rate.proofs.Answers.{answered-wait, throttled-wait}
 use Rattle.rate.proofs.Lawful.{Lawful}
-use Rattle.rate.proofs.Limits.{within-limits}
+use Rattle.ticks.proofs.Limits.{within-limits}
 use Rattle.rate.proofs.Wait.{wait-positive, wait-most, least-wait}
 use Rattle.table.specs.Request.{Request}
 use Rattle.table.specs.Rule.{ruleOf}

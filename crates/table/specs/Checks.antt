@@ -2,7 +2,7 @@
 use Prim.Native.Nat.{ℕ, zero, suc}
 use mathlib.Core.Bool.{Bool, cond, not, _&&_}
 use lib.Dec.{eqb, leb, ltb}
-use Rattle.rate.specs.Grains.{planOk, onClock}
+use Rattle.ticks.specs.Grains.{planOk, onClock}
 use Rattle.rate.specs.Answer.{reasonNumber}
 use Rattle.table.specs.declared.check.Check.{Check}
 use Rattle.table.specs.declared.check.Check.the-variants.{Passed, Failed}

@@ -1,6 +1,6 @@
 -- What a call is asked, but for the columns. Later arguments are further fields.
 use Prim.Native.Nat.{ℕ}
-use Rattle.rate.specs.declared.plan.Plan.{Plan}
+use Rattle.ticks.specs.declared.plan.Plan.{Plan}
 
 -- a peek (document 01's look)
 pub record Query : Type 0 where

@@ -1,7 +1,7 @@
 -- What the table needs of an engine, and no more.
 use Prim.Native.Nat.{ℕ}
 use mathlib.Core.Bool.{Bool}
-use Rattle.rate.specs.declared.plan.Plan.{Plan}
+use Rattle.ticks.specs.declared.plan.Plan.{Plan}
 use Rattle.rate.specs.Decision.{Verdict}
 use Rattle.rate.specs.Engine.{Engine, Judged, judge, report}
 

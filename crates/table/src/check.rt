@@ -3,8 +3,8 @@ ghost use mathlib.Core.Path.{_≡_};
 ghost use Rattle.table.specs.Request.{queryOf, requestOf};
 ghost use Rattle.table.specs.Checks.{slotsOk, queryCheck, requestCheck, checkNumber};
 use rate::answer::Reason;
-use rate::plan::Plan;
-use rate::units::Millis;
+use ticks::plan::Plan;
+use ticks::units::Millis;
 
 // The most slots of a table; the least is 1.
 pub const MOST_SLOTS: usize = 65535;

@@ -5,15 +5,15 @@ ghost use mathlib.Core.Bool.{false};
 ghost use Rattle.rate.specs.Answer.{verdictOf};
 ghost use Rattle.rate.specs.Decision.{Admitting};
 ghost use Rattle.rate.specs.Engine.{judge, report};
-ghost use Rattle.rate.specs.Grains.{InForce};
+ghost use Rattle.ticks.specs.Grains.{InForce};
 ghost use Rattle.token_bucket.specs.TokenBucket.{tokenBucket, sound, levelNow, backlog, spend};
 use rate::answer::Outcome;
 use rate::answer::Reason;
 use rate::decision;
-use rate::plan::Plan;
-use rate::units::Millis;
-use rate::units::Ticks;
 use std::num;
+use ticks::plan::Plan;
+use ticks::units::Millis;
+use ticks::units::Ticks;
 
 pub struct Bucket {
     pub level: Ticks,
@@ -37,7 +37,7 @@ pub fn fresh(plan: Plan, now: Millis) -> Bucket
 }
 
 // Whether the record is possible; if not, the answer is number 7.
-pub fn is_sound(plan: Plan, now: Millis, bucket: Bucket) -> bool
+fn is_sound(plan: Plan, now: Millis, bucket: Bucket) -> bool
     ensures { λ r. ⌜ r ≡ sound plan (now .0) bucket ⌝ }
 {
     let capacity = plan.capacity();
@@ -67,7 +67,7 @@ fn level_now(plan: Plan, now: Millis, bucket: Bucket) -> Ticks
 }
 
 // What the record owes.
-pub fn backlog(plan: Plan, now: Millis, bucket: Bucket) -> Ticks
+fn backlog(plan: Plan, now: Millis, bucket: Bucket) -> Ticks
     ensures { λ r. ⌜ r .0 ≡ backlog plan (now .0) bucket ⌝ }
 {
     let capacity = plan.capacity();
@@ -101,7 +101,7 @@ pub fn may_be_free(plan: Plan, now: Millis, bucket: Bucket) -> bool
 }
 
 // The record after a cost was admitted.
-pub fn spend(plan: Plan, now: Millis, bucket: Bucket, cost: u32) -> Bucket
+fn spend(plan: Plan, now: Millis, bucket: Bucket, cost: u32) -> Bucket
     requires { ⌜ Admitting plan (now .0) (backlog plan (now .0) bucket) cost ⌝ }
     ensures { λ r. ⌜ r ≡ spend plan (now .0) bucket cost ⌝ }
 {

@@ -1,6 +1,6 @@
 -- Document 01's examples, all of them, by the token bucket: the definitions give its answers, whatever the cleared slot held
 -- before.
--- It names definitions of `rate` on its `unfolding` line, as the one file of its crate that computes with them.
+-- It names definitions of other crates on its `unfolding` line, as a worked example may.
 -- Assumes nothing.
 use mathlib.Core.Path.{_≡_, refl}
 use mathlib.Core.List.{[], _∷_}
@@ -8,7 +8,7 @@ use Prim.Native.Nat.{ℕ}
 use Rattle.rate.specs.Answer.{answered}
 use Rattle.rate.specs.Decision.{remaining, resetAt, retryAfter, bare, reported, admitted, throttled}
 use Rattle.rate.specs.Engine.{judge}
-use Rattle.rate.specs.Grains.{ticksIn, price, capacity, divUp, oneTo, planOk, onClock}
+use Rattle.ticks.specs.Grains.{ticksIn, price, capacity, divUp, oneTo, planOk, onClock}
 use Rattle.token_bucket.specs.TokenBucket.{tokenBucket, fresh, sound, refilled, free, levelNow, backlog, admits, spend}
 use Rattle.table.specs.Checks.{slotsOk, queryCheck, costCheck, requestCheck, guard}
 use Rattle.table.specs.Rule.{ruleOf}

@@ -13,10 +13,10 @@ ghost use Rattle.table.specs.Request.{queryOf, requestOf};
 ghost use Rattle.token_bucket_table.specs.Table.{tableOf, acquire, peek, clear};
 use rate::answer::Answer;
 use rate::answer::Cleared;
-use rate::plan::Plan;
-use rate::units::Millis;
 use table::check;
 use table::columns;
+use ticks::plan::Plan;
+use ticks::units::Millis;
 
 mod ruling; // an acquire judged, then committed
 mod slot; // the slot that a subscriber is judged in

@@ -8,13 +8,13 @@ ghost use Rattle.table.specs.Calls.{held, peekVerdict};
 ghost use Rattle.token_bucket_table.specs.Table.{tableOf, columns, Even};
 use crate::slot;
 use rate::answer::Outcome;
-use rate::plan::Plan;
-use rate::units::Millis;
 use table::check;
 use table::check::Check;
 use table::columns;
 use table::search;
 use table::search::Place;
+use ticks::plan::Plan;
+use ticks::units::Millis;
 use token_bucket::Bucket;
 
 // The record of a subscriber, a fresh one if it has no slot.

@@ -1,43 +1,34 @@
 -- A whole text: the room that it needs, and that header, body and end come to its transcript.
 -- Assumes nothing.
 use mathlib.Core.Path.{_≡_, sym, ap, subst, _∙_}
-use mathlib.Core.Bool.{cond}
-use mathlib.Core.List.{List, _++_, append-assoc}
+use mathlib.Core.List.{List, [], _++_, append-assoc}
 use Prim.Native.Nat.{ℕ, _+_, _-_, _/_, _≤_, _<_}
 use native.Mathlib.Nat.{div-lt-iff-lt-mul, le-div-iff-mul-le}
 use native.Mathlib.Omega.{arith}
-use lib.Dec.{eqb}
-use lib.ListN.{length, getD, drop, drop-of-length-le, length-append}
+use lib.ListN.{length, length-append}
 use lib.Seq.{sets}
 use borrow.Author.Tests.{le-leb, lt-leb}
-use Rattle.tsv.specs.Text.{lf}
-use Rattle.tsv.proofs.Scanning.{rest-of}
+use Rattle.gcra_table.specs.Table.{Table, tableOf}
+use Rattle.protocol.specs.Reply.{header}
+use Rattle.protocol.proofs.Lengths.{header-length}
+use Rattle.protocol.proofs.Putting.{Put, put-length}
+use Rattle.session.specs.Session.{textSlots, Lent}
+use Rattle.session.specs.Stream.{State, said, after, start, ending, endings}
+use Rattle.session.specs.Transcript.{transcript}
+use Rattle.session.proofs.Lengths.{said-most, ending-most}
+use Rattle.session.proofs.LineEnds.{ending-any}
+use Rattle.session.proofs.Streamed.{streamed}
+use Rattle.session.proofs.Turning.{bounded-first}
 use Rattle.transcript.specs.declared.stream.Session.{Session}
 use Rattle.transcript.specs.declared.whole.Transcribed.{Transcribed}
 use Rattle.transcript.specs.declared.whole.Transcribed.the-variants.{ShortTable, ShortOutput}
-use Rattle.transcript.specs.Stream.{State, said, after, start, ending, endings}
-use Rattle.transcript.specs.Transcript.{header, transcript, mostSeats}
-use Rattle.transcript.specs.Running.{Lent, Seated, Ready, stateOf, started, endingOf}
-use Rattle.transcript.specs.Whole.{room, transcribed, written, lentOf, Result}
-use Rattle.transcript.proofs.Lengths.{said-most, ending-most}
-use Rattle.transcript.proofs.Putting.{Put, put-length}
-use Rattle.transcript.proofs.Streamed.{streamed}
-
--- the lines that end, from a place on
-module _ (s : List ℕ) (i : ℕ) where
-  pub endings-end : length s ≤ i → endings (drop i s) ≡ 0
-  unfolding endings
-  endings-end h = rw (drop-of-length-le s h)
-
-  pub endings-next : i < length s → endings (drop i s) ≡ cond (eqb (getD s i 0) lf) 1 0 + endings (drop (i + 1) s)
-  unfolding endings
-  endings-next h = rw (rest-of s i h)
+use Rattle.transcript.specs.Running.{Ready, stateOf, started, endingOf}
+use Rattle.transcript.specs.Whole.{room, transcribed, written, lentOf, Lending, Result}
 
 -- a line's buffer for a session that starts
-pub ready-start : (s : Session) (line : List ℕ) → s ≡ started → 127 ≤ length line → Ready s line
-unfolding Seated
+pub ready-start : (s : Session) (line : List ℕ) → s ≡ started → 128 ≤ length line → Ready s line
 ready-start s line e h =
-    subst (λ (x : Session). Ready x line) (sym e) (record { seated = tt; held-within = omega arith; line-enough = h })
+    subst (λ (x : Session). Ready x line) (sym e) (record { bounded = bounded-first; held-within = omega arith; line-enough = h })
 
 module _ (text out : List ℕ) (fits : room text ≤ length out) where
   pub header-fits : length header ≤ length out
@@ -62,15 +53,11 @@ module _ (text ids tats : List ℕ) (lent : Lent ids tats) {s : Session} (e : s 
     leads : stateOf s′ line′ ids′ tats′ ≡ after (start ids tats) text
     leads = m ∙ ap (λ (σ : State). after σ text) start-is
 
-    pub ids-after : ids′ ≡ after (start ids tats) text .ids
-    ids-after = ap (λ (σ : State). σ .ids) leads
-
-    pub tats-after : tats′ ≡ after (start ids tats) text .tats
-    tats-after = ap (λ (σ : State). σ .tats) leads
+    pub table-after : tableOf ids′ tats′ ≡ after (start ids tats) text .table
+    table-after = ap (λ (σ : State). σ .table) leads
 
     ending-is : endingOf s′ line′ ≡ ending (after (start ids tats) text)
-    unfolding ending
-    ending-is = ap (λ (σ : State). ending σ) leads
+    ending-is = sym (ending-any (stateOf s′ line′ ids′ tats′) (tableOf [] [])) ∙ ap (λ (σ : State). ending σ) leads
 
     pub text-is : header ++ said (stateOf s line ids tats) text ++ endingOf s′ line′ ≡ transcript text
     text-is =
@@ -92,16 +79,16 @@ module _ (text ids tats out : List ℕ) where
   abbrev as-it-was : Transcribed → Result
   as-it-was answer = record { answer = answer; left = lentOf ids tats out }
 
-  pub short-ids : length ids < mostSeats → transcribed text ids tats out ≡ as-it-was ShortTable
+  pub short-ids : length ids < textSlots → transcribed text ids tats out ≡ as-it-was ShortTable
   unfolding transcribed
   short-ids h = rw (lt-leb _ _ h)
 
-  module _ (i : mostSeats ≤ length ids) where
-    pub short-tats : length tats < mostSeats → transcribed text ids tats out ≡ as-it-was ShortTable
+  module _ (i : textSlots ≤ length ids) where
+    pub short-tats : length tats < textSlots → transcribed text ids tats out ≡ as-it-was ShortTable
     unfolding transcribed
     short-tats h = rw (le-leb _ _ i, lt-leb _ _ h)
 
-    module _ (t : mostSeats ≤ length tats) where
+    module _ (t : textSlots ≤ length tats) where
       pub short-out : length out < room text → transcribed text ids tats out ≡ as-it-was ShortOutput
       unfolding transcribed
       short-out h = rw (le-leb _ _ i, le-leb _ _ t, lt-leb _ _ h)
@@ -113,21 +100,18 @@ module _ (text ids tats out : List ℕ) where
 -- the room, as a division finds it
 module _ (text out : List ℕ) {n : ℕ} (counted : n ≡ endings text) where
   pub too-short : 140 ≤ length out → (length out - 140) / 105 < n → length out < room text
-  unfolding header
   too-short l h =
       let past = div-lt-iff-lt-mul {k = 105} (omega arith) .0 h in
-      omega (arith, past)
+      omega (arith, past, header-length)
 
   pub enough : 140 ≤ length out → n ≤ (length out - 140) / 105 → room text ≤ length out
-  unfolding header
   enough l h =
       let within = le-div-iff-mul-le {k = 105} (omega arith) .0 h in
-      omega (arith, within)
+      omega (arith, within, header-length)
 
 pub least-room : (text out : List ℕ) → length out < 140 → length out < room text
-unfolding header
-least-room text out h = omega arith
+least-room text out h = omega (arith, header-length)
 
 pub lent-same :
-    {ids ids′ tats tats′ out out′ : List ℕ} → ids ≡ ids′ → tats ≡ tats′ → out ≡ out′ → lentOf ids tats out ≡ lentOf ids′ tats′ out′
-lent-same i t o k = lentOf (i k) (t k) (o k)
+    {t t′ : Table} {out out′ : List ℕ} → t ≡ t′ → out ≡ out′ → _≡_ {A = Lending} (record { table = t; out = out }) (record { table = t′; out = out′ })
+lent-same e o k = record { table = e k; out = o k }

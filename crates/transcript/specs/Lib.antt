@@ -1,7 +1,3 @@
--- What a reader must believe of the text program.
-pub mod Command
-pub mod Transcript
-pub mod Stream
+-- What a reader must believe of the text program's functions.
 pub mod Running
 pub mod Whole
-pub mod Worked

@@ -5,19 +5,21 @@ use Prim.Native.Nat.{ℕ, _+_, _*_}
 use lib.Dec.{leb}
 use lib.ListN.{length}
 use lib.Seq.{sets}
+use Rattle.session.specs.Session.{textSlots}
 use Rattle.transcript.specs.declared.whole.Transcribed.{Transcribed}
 use Rattle.transcript.specs.declared.whole.Transcribed.the-variants.{Written, ShortTable, ShortOutput}
-use Rattle.transcript.specs.Transcript.{header, mostSeats, transcript}
-use Rattle.transcript.specs.Stream.{after, start, endings, mostLine}
+use Rattle.gcra_table.specs.Table.{Table, tableOf}
+use Rattle.protocol.specs.Reply.{header, mostReply}
+use Rattle.session.specs.Transcript.{transcript}
+use Rattle.session.specs.Stream.{after, start, endings}
 
 -- an output this long is long enough: the header, and a longest line for each line that ends and for one that does not
 abbrev pub room : List ℕ → ℕ
-room text = length header + mostLine + mostLine * endings text
+room text = length header + mostReply + mostReply * endings text
 
 -- what was lent
 pub record Lending : Type 0 where
-  pub ids : List ℕ
-  pub tats : List ℕ
+  pub table : Table
   pub out : List ℕ
 
 pub record Result : Type 0 where
@@ -25,18 +27,18 @@ pub record Result : Type 0 where
   pub left : Lending
 
 abbrev pub lentOf : List ℕ → List ℕ → List ℕ → Lending
-lentOf ids tats out = record { ids = ids; tats = tats; out = out }
+lentOf ids tats out = record { table = tableOf ids tats; out = out }
 
 -- the transcript is written, and the bytes after it stay; the columns are as the run leaves them
 abbrev pub written : List ℕ → List ℕ → List ℕ → List ℕ → Result
 written text ids tats out =
     record {
       answer = Written (length (transcript text));
-      left = lentOf (after (start ids tats) text .ids) (after (start ids tats) text .tats) (sets out 0 (transcript text));
+      left = record { table = after (start ids tats) text .table; out = sets out 0 (transcript text) };
     }
 
 unfoldable pub transcribed : List ℕ → List ℕ → List ℕ → List ℕ → Result
 transcribed text ids tats out =
-    cond (leb mostSeats (length ids) && leb mostSeats (length tats))
+    cond (leb textSlots (length ids) && leb textSlots (length tats))
     (cond (leb (room text) (length out)) (written text ids tats out) (record { answer = ShortOutput; left = lentOf ids tats out }))
     (record { answer = ShortTable; left = lentOf ids tats out })

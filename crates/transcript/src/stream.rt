@@ -1,28 +1,29 @@
-// The input piece by piece, in constant memory: the unfinished line is kept, up to the longest that can be read, and each line
-// is answered at its LF.
+// The input piece by piece, in constant memory: a line is read where it stands in the piece and answered at its LF, and only one
+// that goes on in the next piece is kept.
 ghost use mathlib.Core.Path.{_≡_};
-ghost use mathlib.Core.Bool.{not, _||_};
-ghost use Prim.Native.Nat.{_+_, _≤_};
-ghost use lib.Dec.{eqb};
+ghost use mathlib.Core.Bool.{true};
+ghost use mathlib.Core.List.{_++_};
+ghost use Prim.Native.Nat.{_+_, _≤_, min};
 ghost use lib.ListN.{length, take};
 ghost use lib.Seq.{sets};
-ghost use Rattle.transcript.specs.Stream.{heldCommand, says, said, moved, after};
-ghost use Rattle.transcript.specs.Running.{Lent, Ready, Moved, Kept, stateOf, started, endingOf};
-use crate::answer;
-use crate::command;
-use crate::command::Command;
-use crate::session;
-use crate::session::Stage;
+ghost use Rattle.tsv.specs.Text.{lf};
+ghost use Rattle.protocol.specs.Command.{mostLine, lineCommand};
+ghost use Rattle.session.specs.Session.{Lent};
+ghost use Rattle.session.specs.Stream.{textOf, kept, says, said, moved, after};
+ghost use Rattle.transcript.specs.Running.{Ready, Moved, stateOf, started, endingOf};
+use protocol::command;
+use protocol::command::Command;
+use protocol::command::MOST_LINE;
+use protocol::reply;
+use session::Reply;
+use session::Stage;
+use tsv::bytes;
 use tsv::bytes::LF;
 
-// The longest line that can be read, without its LF.
-const MOST_HELD: usize = 127;
-
-// How far a run has come: its stage, how many bytes of the unfinished line are held, and whether it is too long already.
+// How far a run has come: its stage, and how many bytes of the unfinished line are held.
 pub struct Session {
     pub stage: Stage,
     pub held: usize,
-    pub long: bool,
 }
 
 // The session after a piece of the input, and where the next byte of the output goes.
@@ -38,55 +39,56 @@ pub fn start() -> Session
     Session {
         stage: Stage::First,
         held: 0,
-        long: false,
     }
 }
 
-// What the line says that ends here.
-fn command_held(session: Session, line: &[u8]) -> Command
-    requires { ⌜ Ready session (now line) ⌝ }
-    ensures { λ r. ⌜ r ≡ heldCommand (session .long) (take (session .held) (now (line .entry))) ⌝ }
+// Writes a reply from `at` on, and says where the next byte goes.
+fn put(out: &mut [u8], at: usize, reply: Reply) -> usize
+    requires { ⌜ at + length (textOf reply) ≤ length (now out) ⌝ }
+    ensures { λ r. ⌜ (r ≡ at + length (textOf reply)) × (now (out .exit) ≡ sets (now (out .entry)) at (textOf reply)) ⌝ }
 {
-    if session.long {
-        return Command::Unreadable;
+    match reply {
+        Reply::Nothing => at,
+        Reply::Numbers(numbers) => reply::put(out, at, numbers),
     }
-    let held = session.held;
-    command::read(&line[..held])
 }
 
-// One more byte of the unfinished line.
-fn keep(session: Session, line: &mut [u8], byte: u8) -> Session
-    requires { ⌜ Ready session (now line) ⌝ }
-    ensures { λ r. ⌜ Kept session (now (line .entry)) byte r (now (line .exit)) ⌝ }
+// The smaller of two numbers.
+fn least(a: usize, b: usize) -> usize
+    ensures { λ r. ⌜ r ≡ min a b ⌝ }
 {
-    let stage = session.stage;
-    let held = session.held;
-    if session.long {
-        return Session {
-            stage,
-            held,
-            long: true,
-        };
+    if a < b {
+        return a;
     }
-    if MOST_HELD <= held {
-        return Session {
-            stage,
-            held,
-            long: true,
-        };
-    }
-    line[held] = byte;
-    Session {
-        stage,
-        held: held + 1,
-        long: false,
-    }
+    b
 }
 
-// One byte of the input.
-fn push(
+// Holds more bytes of the unfinished line, as many as are kept, and says how many it holds.
+fn hold(line: &mut [u8], held: usize, more: &[u8]) -> usize
+    requires { ⌜ (held ≤ mostLine) × (mostLine ≤ length (now line)) ⌝ }
+    ensures { λ r. ⌜ take r (now (line .exit)) ≡ take mostLine (take held (now (line .entry)) ++ now (more .entry)) ⌝ }
+    ensures { λ r. ⌜ r ≤ mostLine ⌝ }
+{
+    let count = least(MOST_LINE - held, more.len());
+    bytes::put(line, held, &more[..count])
+}
+
+// What a line says that ends with these bytes: it is read where it stands, unless it began in an earlier piece.
+fn ended(line: &mut [u8], held: usize, rest: &[u8]) -> Command
+    requires { ⌜ (held ≤ mostLine) × (mostLine ≤ length (now line)) ⌝ }
+    ensures { λ r. ⌜ r ≡ lineCommand (record { bytes = take mostLine (take held (now (line .entry)) ++ now (rest .entry)); ended = true }) ⌝ }
+{
+    if held == 0 {
+        return command::read(rest);
+    }
+    let all = hold(line, held, rest);
+    command::read(&line[..all])
+}
+
+// The line that ends with these bytes is answered.
+fn end_line(
     session: Session,
-    byte: u8,
+    rest: &[u8],
     line: &mut [u8],
     ids: &mut [u32],
     tats: &mut [u64],
@@ -95,28 +97,20 @@ fn push(
 ) -> Fed
     requires { ⌜ Ready session (now line) ⌝ }
     requires { ⌜ Lent (now ids) (now tats) ⌝ }
-    requires { ⌜ at + length (says (stateOf session (now line) (now ids) (now tats)) byte) ≤ length (now out) ⌝ }
-    ensures { λ r. ⌜ Moved (says (stateOf session (now (line .entry)) (now (ids .entry)) (now (tats .entry))) byte)
-        (moved (stateOf session (now (line .entry)) (now (ids .entry)) (now (tats .entry))) byte)
+    requires { ⌜ at + length (says (kept (stateOf session (now line) (now ids) (now tats)) (now rest)) lf) ≤ length (now out) ⌝ }
+    ensures { λ r. ⌜ Moved
+        (says (kept (stateOf session (now (line .entry)) (now (ids .entry)) (now (tats .entry))) (now (rest .entry))) lf)
+        (moved (kept (stateOf session (now (line .entry)) (now (ids .entry)) (now (tats .entry))) (now (rest .entry))) lf)
         at r (now (line .exit)) (now (ids .exit)) (now (tats .exit)) (now (out .entry)) (now (out .exit)) ⌝ }
 {
-    if byte != LF {
-        return Fed {
-            session: keep(session, line, byte),
-            at,
-        };
-    }
-    let command = command_held(session, line);
+    let command = ended(line, session.held, rest);
     let stage = session.stage;
-    let turn = session::answer(stage, command, ids, tats, out, at);
+    let turn = session::answer(stage, command, ids, tats);
     let stage = turn.stage;
+    let reply = turn.reply;
     Fed {
-        session: Session {
-            stage,
-            held: 0,
-            long: false,
-        },
-        at: turn.at,
+        session: Session { stage, held: 0 },
+        at: put(out, at, reply),
     }
 }
 
@@ -142,24 +136,20 @@ pub fn feed(
     let mut w = at;
     let mut i = 0;
     loop {
-        if piece.len() <= i {
-            break Fed { session: s, at: w };
+        let end = bytes::find(piece, i, LF);
+        if piece.len() <= end {
+            let stage = s.stage;
+            let held = hold(line, s.held, &piece[i..end]);
+            break Fed {
+                session: Session { stage, held },
+                at: w,
+            };
         }
-        let fed = push(s, piece[i], line, ids, tats, out, w);
+        let fed = end_line(s, &piece[i..end], line, ids, tats, out, w);
         s = fed.session;
         w = fed.at;
-        i += 1;
+        i = end + 1;
     }
-}
-
-// Whether a line is unfinished.
-fn is_pending(session: Session) -> bool
-    ensures { λ r. ⌜ r ≡ (session .long || not (eqb (session .held) 0)) ⌝ }
-{
-    if session.long {
-        return true;
-    }
-    session.held != 0
 }
 
 // The input's end: a last line without LF.
@@ -169,13 +159,9 @@ pub fn finish(session: Session, line: &[u8], out: &mut [u8], at: usize) -> usize
     ensures { λ r. ⌜ (r ≡ at + length (endingOf session (now (line .entry))))
         × (now (out .exit) ≡ sets (now (out .entry)) at (endingOf session (now (line .entry)))) ⌝ }
 {
-    if !is_pending(session) {
+    if session.held == 0 {
         return at;
     }
     let stage = session.stage;
-    match stage {
-        Stage::First => answer::refuse(out, at, 10),
-        Stage::Open { plan: _, slots: _ } => answer::refuse(out, at, 10),
-        Stage::Over => at,
-    }
+    put(out, at, session::unended(stage))
 }

@@ -9,7 +9,7 @@ use native.Mathlib.Omega.{arith}
 use lib.Dec.{eqb}
 use lib.ListN.{length, getD, take, drop, set, drop-of-length-le}
 use lib.Seq.{drop-cons, sets, take-suc, length-take-le, set-comm}
-use borrow.Author.Tests.{eq-eqb, ne-eqb}
+use borrow.Author.Tests.{eq-eqb, ne-eqb, eqb-true}
 use Rattle.tsv.specs.Text.{upTo, same}
 
 -- the rest of a text from a place: its byte, and the rest after it
@@ -39,6 +39,35 @@ found-within b (x ∷ s) = by (eqb x b) (found-within b s)
     by : (t : Bool) → length (upTo b s) ≤ length s → length (cond t [] (x ∷ upTo b s)) ≤ length (x ∷ s)
     by true h = omega arith
     by false h = omega arith
+
+-- the byte does not occur
+abbrev pub Lacks : ℕ → List ℕ → Type 0
+Lacks b [] = Unit {0}
+Lacks b (x ∷ s) = (eqb x b ≡ false) × Lacks b s
+
+-- it does not before the first
+pub before-lacks : (b : ℕ) (s : List ℕ) → Lacks b (upTo b s)
+unfolding upTo
+before-lacks b [] = tt
+before-lacks b (x ∷ s) = by (eqb x b) refl (before-lacks b s)
+  where
+    by : (t : Bool) → eqb x b ≡ t → Lacks b (upTo b s) → Lacks b (cond t [] (x ∷ upTo b s))
+    by true e h = tt
+    by false e h = (e, h)
+
+-- a text in which it occurs: what stands before the first, the byte, and what follows
+pub found-split :
+    (b : ℕ) (s : List ℕ) → length (upTo b s) < length s → s ≡ upTo b s ++ b ∷ drop (suc (length (upTo b s))) s
+unfolding upTo
+found-split b [] h = absurd (omega arith)
+found-split b (x ∷ s) h = by (eqb x b) refl h (found-split b s)
+  where
+    by :
+        (t : Bool) → eqb x b ≡ t → length (cond t [] (x ∷ upTo b s)) < length (x ∷ s) →
+        (length (upTo b s) < length s → s ≡ upTo b s ++ b ∷ drop (suc (length (upTo b s))) s) →
+        x ∷ s ≡ cond t [] (x ∷ upTo b s) ++ b ∷ drop (suc (length (cond t [] (x ∷ upTo b s)))) (x ∷ s)
+    by true e h ih = ap (λ (y : ℕ). y ∷ s) (eqb-true x b e)
+    by false e h ih = ap (λ (l : List ℕ). x ∷ l) (ih (omega arith))
 
 -- texts of different lengths are not the same
 pub same-length : (s t : List ℕ) → (length s ≡ length t → ⊥) → same s t ≡ false

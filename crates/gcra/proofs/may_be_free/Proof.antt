@@ -4,9 +4,9 @@ use borrow.Author.Needs.{needs}
 use borrow.Author.Tests.{lt-leb}
 use Prim.Native.Nat.{_<_}
 use native.Mathlib.Omega.{arith}
-use Rattle.rate.specs.Grains.{ticksIn}
+use Rattle.ticks.specs.Grains.{ticksIn}
 use Rattle.gcra.specs.Gcra.{gcra, free}
-use Rattle.rate.proofs.Limits.{ticks-most}
+use Rattle.ticks.proofs.Limits.{ticks-most}
 use Rattle.gcra.proofs.may_be_free.Statement.{statement}
 use Rattle.gcra.proofs.may_be_free.Tie as tie
 

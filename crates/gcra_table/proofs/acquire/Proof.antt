@@ -3,7 +3,7 @@
 use borrow.Author.Needs.{needs}
 use mathlib.Core.Path.{sym, ap, _∙_}
 use denote.Ref.{now}
-use Rattle.rate.specs.declared.units.Ticks.{Ticks}
+use Rattle.ticks.specs.declared.units.Ticks.{Ticks}
 use Rattle.rate.proofs.Answers.{numbers}
 use Rattle.gcra.specs.Gcra.{gcra}
 use Rattle.table.specs.Request.{requestOf}

@@ -3,7 +3,7 @@
 use borrow.Author.Needs.{needs}
 use mathlib.Core.Path.{ap, _∙_}
 use Prim.Native.Nat.{ℕ}
-use Rattle.rate.specs.Grains.{divUp}
+use Rattle.ticks.specs.Grains.{divUp}
 use Rattle.http.specs.Fields.{seconds, windowOf}
 use Rattle.http.proofs.window.Statement.{statement}
 use Rattle.http.proofs.window.Tie as tie

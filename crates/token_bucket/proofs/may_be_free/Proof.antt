@@ -4,8 +4,8 @@ use borrow.Author.Needs.{needs}
 use mathlib.Core.Path.{ap}
 use Prim.Native.Nat.{ℕ}
 use native.Mathlib.Omega.{arith}
-use Rattle.rate.specs.Grains.{ticksIn}
-use Rattle.rate.proofs.Limits.{ticks-most}
+use Rattle.ticks.specs.Grains.{ticksIn}
+use Rattle.ticks.proofs.Limits.{ticks-most}
 use Rattle.token_bucket.proofs.Laws.{lacks-not-free}
 use Rattle.token_bucket.proofs.may_be_free.Statement.{statement}
 use Rattle.token_bucket.proofs.may_be_free.Tie as tie

@@ -9,7 +9,8 @@ use lib.Seq.{length-take-le}
 use denote.Ref.{now}
 use borrow.Author.Needs.{needs}
 use Rattle.transcript.specs.Running.{stateOf}
-use Rattle.transcript.specs.Stream.{State, said, mostLine}
+use Rattle.session.specs.Stream.{State, said}
+use Rattle.protocol.specs.Reply.{mostReply}
 use Rattle.railcadence.specs.Serving.{Onwards}
 use Rattle.railcadence.proofs.Suffices.{answers-fit}
 use Rattle.railcadence.proofs.Counting.{written}
@@ -23,7 +24,7 @@ before s = stateOf (s .args .session) (now (s .args .line)) (now (s .args .ids))
 abbrev bytes : tie.Start → List ℕ
 bytes s = take (s .args .n) (now (s .args .piece))
 
-fits : (s : tie.Start) → mostLine * length (bytes s) ≤ length (now (s .args .out))
+fits : (s : tie.Start) → mostReply * length (bytes s) ≤ length (now (s .args .out))
 fits s = omega (arith, length-take (s .args .n) (now (s .args .piece)), s .pre .1 .1 .0 .each-byte)
 
 slice-aggregate-feed : tie.Need-slice-aggregate-feed

@@ -3,7 +3,7 @@
 use native.Mathlib.Omega.{arith}
 use denote.Ref.{now}
 use borrow.Author.Needs.{needs}
-use Rattle.transcript.specs.Transcript.{header}
+use Rattle.protocol.specs.Reply.{header}
 use Rattle.railcadence.proofs.Counting.{written}
 use Rattle.railcadence.proofs.serve.begin.Statement.{statement}
 use Rattle.railcadence.proofs.serve.begin.Tie as tie

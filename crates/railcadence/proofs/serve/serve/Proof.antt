@@ -3,7 +3,7 @@
 use native.Mathlib.Omega.{arith}
 use denote.Ref.{now}
 use borrow.Author.Needs.{needs}
-use Rattle.transcript.proofs.Lengths.{header-length}
+use Rattle.protocol.proofs.Lengths.{header-length}
 use Rattle.railcadence.specs.Serving.{Finished, accountOf}
 use Rattle.railcadence.proofs.Reached.{served}
 use Rattle.railcadence.proofs.serve.serve.Statement.{statement}

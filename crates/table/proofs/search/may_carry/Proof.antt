@@ -4,7 +4,7 @@ use mathlib.Core.Path.{_≡_}
 use mathlib.Core.Bool.{false}
 use Prim.Native.Nat.{_-_}
 use native.Mathlib.Omega.{arith}
-use Rattle.rate.proofs.Tests.{neither}
+use Rattle.ticks.proofs.Tests.{neither}
 use Rattle.table.specs.Slots.{carries, NoneFrom}
 use Rattle.table.proofs.Seek.{from-next}
 use Rattle.table.proofs.search.may_carry.Statement.{statement}

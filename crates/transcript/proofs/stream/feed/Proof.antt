@@ -4,8 +4,11 @@ use native.Mathlib.Omega.{arith}
 use Prim.Native.Nat.{_-_}
 use mathlib.Core.Path.{_≡_, refl, _∙_}
 use lib.ListN.{length}
+use denote.Ref.{now}
 use Rattle.transcript.specs.Running.{stateOf}
+use Rattle.session.proofs.LineEnds.{end-within}
 use Rattle.transcript.proofs.Feeding.{Going, going-room, going-next, going-end}
+use borrow.Author.Needs.{needs}
 use Rattle.transcript.proofs.stream.feed.Statement.{statement}
 use Rattle.transcript.proofs.stream.feed.Tie as tie
 
@@ -17,25 +20,51 @@ abbrev μ-loop : tie.MeasureT-loop
 
 loop-holds : tie.Need-loop-holds Inv-loop μ-loop
 loop-holds c =
-    let p5 = c .before .before .before .before .before in
-    (record { leads = refl; writes = refl; place = refl; long-as = refl; ready = p5 .pre .0; lent = p5 .pre .1 .0 }, (refl, (refl, refl)))
+    let start = c .before .before .before .before .before in
+    (record { leads = refl; writes = refl; place = refl; long-as = refl; ready = start .pre .0; lent = start .pre .1 .0; inside = omega arith }, (refl, (refl, refl)))
 
-shared-slice-read-push : tie.Need-shared-slice-read-push Inv-loop μ-loop
-shared-slice-read-push c = omega arith
+find-requires : tie.Need-find-requires Inv-loop μ-loop
+find-requires c κs = c .loop .inv .0 .inside
 
-push-requires : tie.Need-push-requires Inv-loop μ-loop
-push-requires c κs =
+sub-hold : tie.Need-sub-hold Inv-loop μ-loop
+sub-hold c = let p2 = c .before .before in omega (arith, p2 .find .ensures)
+
+part-hold-start : tie.Need-part-hold-start Inv-loop μ-loop
+part-hold-start c = let p2 = c .before .before in omega (arith, p2 .find .ensures)
+
+part-hold-end : tie.Need-part-hold-end Inv-loop μ-loop
+part-hold-end c =
+    let p2 = c .before .before in
+    let p3 = p2 .before in
+    end-within (now (p3 .before .before .before .before .before .before .args .piece)) (p3 .loop .i) (p2 .find .ensures) (p3 .loop .inv .0 .inside)
+
+hold-requires : tie.Need-hold-requires Inv-loop μ-loop
+hold-requires c κs = let g = c .before .before .before .before .loop .inv .0 in (g .ready .held-within, g .ready .line-enough)
+
+sub-end-line : tie.Need-sub-end-line Inv-loop μ-loop
+sub-end-line c = omega (arith, c .before .find .ensures)
+
+part-end-line-start : tie.Need-part-end-line-start Inv-loop μ-loop
+part-end-line-start c = omega (arith, c .before .find .ensures)
+
+part-end-line-end : tie.Need-part-end-line-end Inv-loop μ-loop
+part-end-line-end c = omega arith
+
+end-line-requires : tie.Need-end-line-requires Inv-loop μ-loop
+end-line-requires c κs =
     let p5 = c .before .before .before .before .before in
-    let p6 = p5 .before in
-    let p12 = p6 .before .before .before .before .before .before in
-    let g = p6 .loop .inv .0 in
-    (g .ready, (g .lent, going-room g (p5 .if1 .left) (p12 .pre .1 .1)))
+    let p7 = p5 .before .before in
+    let start = p7 .before .before .before .before .before .before in
+    let g = p7 .loop .inv .0 in
+    (g .ready, (g .lent, going-room g (p5 .before .find .ensures) (p5 .if1 .left) (start .pre .1 .1)))
 
 add-i : tie.Need-add-i Inv-loop μ-loop
-add-i c = omega arith
+add-i c = search needs
 
 loop-less : tie.Need-loop-less Inv-loop μ-loop
-loop-less c = omega arith
+loop-less c =
+    let p15 = c .before .before .before .before .before .before .before .before .before .before .before .before .before .before .before in
+    omega (arith, p15 .if1 .left, p15 .before .find .ensures)
 
 loop-again : tie.Need-loop-again Inv-loop μ-loop
 loop-again c =
@@ -45,25 +74,29 @@ loop-again c =
     let p9 = p8 .before in
     let p15 = p9 .before .before .before .before .before .before in
     let p16 = p15 .before in
-    let g = p16 .loop .inv in (
-      going-next (g .0) (p15 .if1 .left) (p9 .push .ensures),
-      (p8 .line .given ∙ g .1 .0, (p6 .ids .given ∙ g .1 .1 .0, p4 .tats .given ∙ g .1 .1 .1)),
+    let g = p16 .before .loop .inv in (
+      going-next (g .0) (p16 .find .ensures) (p15 .if1 .left) (p9 .end-line .ensures),
+      (p8 .line2 .given ∙ g .1 .0, (p6 .ids .given ∙ g .1 .1 .0, p4 .tats .given ∙ g .1 .1 .1)),
     )
 
 same-length : tie.Need-same-length Inv-loop μ-loop
-same-length c = c .before .loop .inv .1 .0
+same-length c = c .before .line .given ∙ c .before .before .before .before .before .before .before .loop .inv .1 .0
 
 same-length-2 : tie.Need-same-length-2 Inv-loop μ-loop
-same-length-2 c = c .before .loop .inv .1 .1 .0
+same-length-2 c = c .before .before .before .before .before .before .before .loop .inv .1 .1 .0
 
 same-length-3 : tie.Need-same-length-3 Inv-loop μ-loop
-same-length-3 c = c .before .loop .inv .1 .1 .1
+same-length-3 c = c .before .before .before .before .before .before .before .loop .inv .1 .1 .1
 
 same-length-4 : tie.Need-same-length-4 Inv-loop μ-loop
-same-length-4 c = c .before .loop .inv .0 .long-as
+same-length-4 c = c .before .before .before .before .before .before .before .loop .inv .0 .long-as
 
 returns : tie.Need-returns Inv-loop μ-loop
-returns c = going-end (c .before .loop .inv .0) (c .if1 .taken)
+returns c =
+    let p2 = c .before .before in
+    let p5 = p2 .before .before .before in
+    let p6 = p5 .before in
+    going-end (p6 .before .loop .inv .0) (p6 .find .ensures) (p5 .if1 .taken) (p2 .hold .ensures .1) (c .before .line .given) (p2 .hold .ensures .0)
 
 pub feed-spec : {M : Type 1} → statement M
 feed-spec =
@@ -72,8 +105,15 @@ feed-spec =
     Inv-loop
     μ-loop
     loop-holds
-    shared-slice-read-push
-    push-requires
+    find-requires
+    sub-hold
+    part-hold-start
+    part-hold-end
+    hold-requires
+    sub-end-line
+    part-end-line-start
+    part-end-line-end
+    end-line-requires
     add-i
     loop-less
     loop-again

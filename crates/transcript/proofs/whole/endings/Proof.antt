@@ -6,9 +6,8 @@ use Prim.Native.Nat.{_+_, _-_}
 use mathlib.Core.Path.{_≡_}
 use lib.ListN.{length, drop}
 use denote.Ref.{now}
-use Rattle.transcript.specs.Stream.{endings}
-use Rattle.transcript.proofs.Entire.{endings-end, endings-next}
-use Rattle.transcript.proofs.Lengths.{endings-most}
+use Rattle.session.specs.Stream.{endings}
+use Rattle.session.proofs.Lengths.{endings-most, endings-end, endings-next}
 use Rattle.transcript.proofs.whole.endings.Statement.{statement}
 use Rattle.transcript.proofs.whole.endings.Tie as tie
 

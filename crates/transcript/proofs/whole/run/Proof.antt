@@ -4,10 +4,10 @@ use native.Mathlib.Omega.{arith}
 use mathlib.Core.List.{[]}
 use lib.ListN.{replicate}
 use denote.Ref.{now}
-use Rattle.transcript.specs.Stream.{said}
+use Rattle.session.specs.Stream.{said}
 use Rattle.transcript.specs.Running.{stateOf, endingOf}
-use Rattle.transcript.proofs.Putting.{put-then}
-use Rattle.transcript.proofs.Entire.{ready-start, header-fits, body-fits, end-fits, header-put, put-as, text-is, ids-after, tats-after}
+use Rattle.protocol.proofs.Putting.{put-then}
+use Rattle.transcript.proofs.Entire.{ready-start, header-fits, body-fits, end-fits, header-put, put-as, text-is, table-after}
 use borrow.Author.Needs.{needs}
 use Rattle.transcript.proofs.whole.run.Statement.{statement}
 use Rattle.transcript.proofs.whole.run.Tie as tie
@@ -80,7 +80,7 @@ returns c =
     let session = p13 .feed .result .session in
     let all = put-as (text-is text (now (S .ids)) (now (S .tats)) lent started (replicate 128 0) session _ (fed .state-is)) (put-then body (endingOf session _) (c .before .before .finish .ensures .0) (c .before .before .finish .ensures .1)) in (
       (omega (arith, all .place), all .bytes),
-      (ids-after text (now (S .ids)) (now (S .tats)) lent started (replicate 128 0) session _ (fed .state-is), tats-after text (now (S .ids)) (now (S .tats)) lent started (replicate 128 0) session _ (fed .state-is)),
+      table-after text (now (S .ids)) (now (S .tats)) lent started (replicate 128 0) session _ (fed .state-is),
     )
 
 pub run-spec : {M : Type 1} → statement M

@@ -85,7 +85,7 @@ returns-5 c =
     let step = long-enough (now (S .text)) (now (S .ids)) (now (S .tats)) (now (S .out)) (p14 .if1 .left) (p13 .if2 .left) fits in
     let done = p6 .run .ensures in (
       ap (λ (n : ℕ). Written n) (done .0 .0) ∙ sym (ap (λ (x : Result). x .answer) step),
-      lent-same (done .1 .0) (done .1 .1) (done .0 .1) ∙ sym (ap (λ (x : Result). x .left) step),
+      lent-same (done .1) (done .0 .1) ∙ sym (ap (λ (x : Result). x .left) step),
     )
 
 pub transcribe-spec : {M : Type 1} → statement M

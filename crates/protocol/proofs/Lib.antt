@@ -1,0 +1,4 @@
+-- The laws of the text program's lines.
+pub mod Reading
+pub mod Putting
+pub mod Lengths

@@ -1,0 +1,3 @@
+-- What a reader must believe of the text program's lines.
+pub mod Command
+pub mod Reply

@@ -1,0 +1,16 @@
+-- `ticks::units::Ticks::may_be_at_most` meets its contract: less than 2^63 less a number that is not more stays below 2^63.
+-- Assumes nothing.
+use borrow.Author.Needs.{needs}
+use borrow.Author.Tests.{ltb-false}
+use native.Mathlib.Omega.{arith}
+use Rattle.ticks.proofs.units.Ticks.may_be_at_most.Statement.{statement}
+use Rattle.ticks.proofs.units.Ticks.may_be_at_most.Tie as tie
+
+wrapping-sub-u64-requires : tie.Need-wrapping-sub-u64-requires
+wrapping-sub-u64-requires c κs = search needs
+
+returns : tie.Need-returns
+returns c = λ e. omega (arith, ltb-false)
+
+pub may-be-at-most-spec : {M : Type 1} → statement M
+may-be-at-most-spec = tie.close (tie.spec wrapping-sub-u64-requires returns)
