@@ -68,3 +68,30 @@ prints() {
     "$@" >"$build/printed" || fail "'$*' ends with status $?"
     cmp "$build/printed" "$expected" || fail "'$*' does not print $expected"
 }
+
+# notices PROGRAM WORDS..: runs a comparison with each deliberate fault that it lists, as many at a time as there are processors; it must
+# end with status 1 each time
+notices() {
+    faults=$("$1" --spoil list | cut -d' ' -f1)
+    [ -n "$faults" ] || fail "$1 lists no faults, so nothing was tried"
+    unnoticed=$(printf '%s\n' "$faults" | xargs -P "$(nproc)" -I FAULT sh -c '
+        fault=$1
+        shift
+        status=0
+        "$@" --spoil "$fault" >/dev/null 2>&1 || status=$?
+        [ "$status" = 1 ] || printf " %s" "$fault"' fault FAULT "$@")
+    [ -z "$unnoticed" ] || fail "these faults go unnoticed, so the comparison shows nothing there:$unnoticed"
+}
+
+# start PART: runs a part of the tests in the background, into its log. finish PART: waits for it, and shows the log
+start() {
+    ("$1") >"$build/$1.log" 2>&1 &
+    eval "job_$1=$!"
+}
+finish() {
+    eval "job=\$job_$1"
+    status=0
+    wait "$job" || status=$?
+    cat "$build/$1.log"
+    [ "$status" = 0 ] || fail "the part '$1' of the tests fails: see above"
+}
