@@ -1,10 +1,11 @@
 // A plan (document 01, 'Grains'): `limit` units per `period` milliseconds, and a burst of `burst` units on top.
 ghost use mathlib.Core.Path.{_≡_};
-ghost use Prim.Native.Nat.{_^_, _-_, _*_, min};
+ghost use Prim.Native.Nat.{_^_, _-_, _*_, _<_, min};
 ghost use Rattle.ticks.specs.Grains.{ticksIn, price, capacity, divUp, oneTo, planOk};
 use crate::round;
 use crate::units::Millis;
 use crate::units::Ticks;
+use std::num;
 
 // The most that document 01 allows; the least of each is 1.
 pub const MOST_LIMIT: u32 = 1_000_000;
@@ -95,6 +96,17 @@ impl Plan {
             return Ticks(product(span.0, self.limit));
         }
         Ticks(span.0 * self.limit as u64)
+    }
+
+    // What a stretch of time is in ticks, if that is below 2^64; if not, any number. No branch is made of it, and the compiler
+    // reckons several at once: its two products are of 32 bits each.
+    pub fn wrapping_ticks_in(self, span: Millis) -> Ticks
+        ensures { λ r. ⌜ (ticksIn self (span .0) < 2 ^ 64 → r .0 ≡ ticksIn self (span .0)) ⌝ }
+    {
+        let factor = self.limit as u64;
+        let high = span.0 / WORD * factor;
+        let low = span.0 % WORD * factor;
+        Ticks(num::wrapping_add_u64(high % WORD * WORD, low))
     }
 
     // The least whole milliseconds in which so many ticks drain: rounded up.

@@ -37,11 +37,10 @@ impl Millis {
 }
 
 impl Ticks {
-    // Whether these may be at most so many: if not, they are more. It is exact of numbers less than 2^63 apart. The compiler
-    // makes no branch of it, and tests several at once.
+    // Whether these may be at most so many, a number below 2^63: if not, they are more. It is exact of numbers less than
+    // 2^63 apart. The compiler makes no branch of it, and tests several at once.
     pub fn may_be_at_most(self, most: Ticks) -> bool
-        requires { ⌜ most .0 < 2 ^ 63 ⌝ }
-        ensures { λ r. ⌜ (r ≡ false → most .0 < self .0) ⌝ }
+        ensures { λ r. ⌜ (most .0 < 2 ^ 63 → r ≡ false → most .0 < self .0) ⌝ }
     {
         num::wrapping_sub_u64(most.0, self.0) < HALF
     }

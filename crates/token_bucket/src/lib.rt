@@ -86,8 +86,8 @@ pub fn is_free(plan: Plan, now: Millis, bucket: Bucket) -> bool
     owed.0 == 0
 }
 
-// Whether the record may owe nothing: if not, it is not free. It is exact of a sound record, and no branch is made of it:
-// what the level lacks of a full bucket may be at most what has come back since.
+// Whether the record may owe nothing: if not, it is not free. It is exact of a sound record, whose last moment is not to come;
+// no branch is made of it: what the level lacks of a full bucket may be at most what has come back since.
 pub fn may_be_free(plan: Plan, now: Millis, bucket: Bucket) -> bool
     requires { ⌜ InForce plan (now .0) ⌝ }
     ensures { λ r. ⌜ (r ≡ false → tokenBucket .free plan (now .0) bucket ≡ false) ⌝ }
@@ -95,7 +95,8 @@ pub fn may_be_free(plan: Plan, now: Millis, bucket: Bucket) -> bool
     let level = bucket.level;
     let capacity = plan.capacity();
     let last = bucket.last;
-    let refill = plan.ticks_in(now.since(last));
+    let elapsed = Millis(num::wrapping_sub_u64(now.0, last.0));
+    let refill = plan.wrapping_ticks_in(elapsed);
     let lacking = Ticks(num::wrapping_sub_u64(capacity.0, level.0));
     lacking.may_be_at_most(refill)
 }

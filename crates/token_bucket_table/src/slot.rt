@@ -45,8 +45,8 @@ fn is_vacant(plan: Plan, moment: Millis, id: u32, bucket: Bucket) -> bool
     token_bucket::is_free(plan, moment, bucket)
 }
 
-// So many slots are tested together. Of more the compiler makes vector instructions, whose products of 64 bits are slower.
-const BLOCK: usize = 4;
+// So many slots are tested together, two by one vector instruction.
+const BLOCK: usize = 8;
 
 // Whether one of the slots from one up to another may be free: if not, none is.
 fn may_be_vacant(

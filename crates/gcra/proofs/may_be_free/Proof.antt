@@ -14,15 +14,14 @@ ticks-in-requires : tie.Need-ticks-in-requires
 ticks-in-requires c κs = search needs
 
 may-be-at-most-requires : tie.Need-may-be-at-most-requires
-may-be-at-most-requires c κs =
-    let S = c .before in
-    omega (arith, ticks-most (S .args .plan) (S .pre .plan) (S .args .now .0) (S .pre .moment))
+may-be-at-most-requires c κs = search needs
 
 returns : tie.Need-returns
 unfolding gcra free
 returns c = λ e.
     let S = c .before .before in
-    let later : ticksIn (S .args .plan) (S .args .now .0) < S .args .tat .0 = omega (arith, c .may-be-at-most .ensures e) in
+    let most = ticks-most (S .args .plan) (S .pre .plan) (S .args .now .0) (S .pre .moment) in
+    let later : ticksIn (S .args .plan) (S .args .now .0) < S .args .tat .0 = omega (arith, c .may-be-at-most .ensures (omega arith) e) in
     lt-leb _ _ later
 
 pub may-be-free-spec : {M : Type 1} → statement M

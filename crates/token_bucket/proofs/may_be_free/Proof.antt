@@ -1,8 +1,8 @@
 -- `token_bucket::may_be_free` meets its contract: a record whose level lacks more than has come back since is not free.
 -- Assumes nothing.
 use borrow.Author.Needs.{needs}
-use mathlib.Core.Path.{ap}
-use Prim.Native.Nat.{ℕ}
+use mathlib.Core.Path.{_≡_, ap}
+use Prim.Native.Nat.{ℕ, _-_}
 use native.Mathlib.Omega.{arith}
 use Rattle.ticks.specs.Grains.{ticksIn}
 use Rattle.ticks.proofs.Limits.{ticks-most}
@@ -13,34 +13,37 @@ use Rattle.token_bucket.proofs.may_be_free.Tie as tie
 capacity-requires : tie.Need-capacity-requires
 capacity-requires c κs = search needs
 
-since-requires : tie.Need-since-requires
-since-requires c κs = search needs
-
-ticks-in-requires : tie.Need-ticks-in-requires
-ticks-in-requires c κs = search needs
-
 wrapping-sub-u64-requires : tie.Need-wrapping-sub-u64-requires
 wrapping-sub-u64-requires c κs = search needs
 
+wrapping-ticks-in-requires : tie.Need-wrapping-ticks-in-requires
+wrapping-ticks-in-requires c κs = search needs
+
+wrapping-sub-u64-requires-2 : tie.Need-wrapping-sub-u64-requires-2
+wrapping-sub-u64-requires-2 c κs = search needs
+
 may-be-at-most-requires : tie.Need-may-be-at-most-requires
-may-be-at-most-requires c κs =
-    let S = c .before .before .before .before .before .before in
-    let elapsed = c .before .before .since in
-    omega (arith, ticks-most (S .args .plan) (S .pre .plan) (elapsed .result .0) (omega arith))
+may-be-at-most-requires c κs = search needs
 
 returns : tie.Need-returns
 returns c = λ e.
-    let a = c .before .before .before .before .before .before .before .args in
-    let refill = ap (λ (x : ℕ). ticksIn (a .plan) x) (c .before .before .before .since .ensures) in
-    lacks-not-free (a .plan) (a .now .0) (a .bucket) (λ possible. omega (arith, c .may-be-at-most .ensures e))
+    let multiplied = c .before .before .wrapping-ticks-in in
+    let elapsed = c .before .before .before .wrapping-sub-u64 in
+    let S = c .before .before .before .before .before .before .before in
+    let a = S .args in
+    lacks-not-free (a .plan) (a .now .0) (a .bucket) (λ past low.
+    let span : elapsed .result ≡ a .now .0 - a .bucket .last .0 = omega (arith, elapsed .ensures) in
+    let most = ticks-most (a .plan) (S .pre .plan) (elapsed .result) (omega (arith, S .pre .moment)) in
+    let refill = multiplied .ensures (omega arith) in
+    omega (arith, ap (λ (x : ℕ). ticksIn (a .plan) x) span, c .may-be-at-most .ensures (omega arith) e))
 
 pub may-be-free-spec : {M : Type 1} → statement M
 may-be-free-spec =
     tie.close
     (tie.spec
     capacity-requires
-    since-requires
-    ticks-in-requires
     wrapping-sub-u64-requires
+    wrapping-ticks-in-requires
+    wrapping-sub-u64-requires-2
     may-be-at-most-requires
     returns)

@@ -10,7 +10,7 @@ wrapping-sub-u64-requires : tie.Need-wrapping-sub-u64-requires
 wrapping-sub-u64-requires c κs = search needs
 
 returns : tie.Need-returns
-returns c = λ e. omega (arith, ltb-false)
+returns c = λ small e. omega (arith, ltb-false)
 
 pub may-be-at-most-spec : {M : Type 1} → statement M
 may-be-at-most-spec = tie.close (tie.spec wrapping-sub-u64-requires returns)
