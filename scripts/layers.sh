@@ -1,11 +1,48 @@
 #!/bin/sh
-# What stands above a crate uses laws about its definitions, never their text. Prints each line that unfolds a definition of
-# another crate or passes on the right to do so, and each block comment, which it cannot read; fails if there is one. The worked
-# examples (proofs/Worked.antt of a crate) are computed with the definitions, and are left out.
-#   scripts/layers.sh [FOLDER]   FOLDER has crates/; without it, the repository
+# Prints each line that crosses a layer, and fails if there is one.
+#   scripts/layers.sh [FOLDER]   FOLDER has crates.txt and crates/; without it, the repository
 set -eu
 cd "${1-$(dirname "$0")/..}"
-found=$(find crates -name '*.antt' -not -path 'crates/*/proofs/Worked.antt' -exec awk '
+
+# In crates.txt the crates stand under headings, '## LAYER: WORDS', the lowest layer first, and each names only crates above it. Prints
+# each line that names another, or stands under no heading.
+upwards=$(awk '
+    function report(what) { print "crates.txt:" FNR ": " name " " what }
+
+    BEGIN {
+        split("std check libc io os bytes", names, " ")
+        for (i in names) toolchain[names[i]]
+    }
+    FNR == 1 { layer = "" }
+    /^## / {
+        layer = substr($0, 4)
+        sub(/:.*/, "", layer)
+    }
+    { sub(/#.*/, "") }
+    !NF { next }
+    {
+        name = $1
+        sub(/:.*/, "", name)
+        sub(/^[^:]*:/, "")
+    }
+
+    # it is read twice, first to see where each crate stands
+    NR == FNR { place[name] = FNR; home[name] = layer; next }
+
+    layer == "" { report("stands under no heading, \"## LAYER: WORDS\": move it to the layer that it belongs to") }
+    {
+        for (i = 1; i <= NF; i++) {
+            if ($i in place ? place[$i] < FNR : $i in toolchain) continue
+            if (!($i in place)) report("names " $i ", which is not listed: list it above, or take it out")
+            else if (home[$i] == layer) report("names " $i ", which is not above it: move one of the two lines")
+            else report("names " $i " of the later layer \"" home[$i] "\": take " $i " out, or move " name " to that layer")
+        }
+    }' crates.txt crates.txt)
+
+# What stands above a crate uses laws about its definitions, never their text. Prints each line that unfolds a definition of
+# another crate or passes on the right to do so, and each block comment, which it cannot read. The worked examples
+# (proofs/Worked.antt of a crate) are computed with the definitions, and are left out.
+inside=$(find crates -name '*.antt' -not -path 'crates/*/proofs/Worked.antt' -exec awk '
     # Whether a name or a path leads to another crate. A crate writes its own as Rattle.NAME.specs.
     function foreign(name,   steps, parts) {
         sub(/^package\./, "", name)
@@ -69,7 +106,8 @@ found=$(find crates -name '*.antt' -not -path 'crates/*/proofs/Worked.antt' -exe
         }
         if (found) report()
     }' {} +)
-[ -z "$found" ] || {
-    printf '%s\n' "$found"
+
+[ -z "$upwards$inside" ] || {
+    printf '%s\n' "$upwards" "$inside" | grep .
     exit 1
 }

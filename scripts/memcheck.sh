@@ -41,7 +41,7 @@ compile() {
 }
 
 step "proving the C interface and the text program, and building them (some minutes the first time)"
-build_archive railcadence_c
+build_archive
 build_program
 
 step "valgrind itself: a column one number longer than its memory is found in every call"

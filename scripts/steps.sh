@@ -11,7 +11,7 @@ fail() {
 need() { command -v "$1" >/dev/null 2>&1 || fail "the tool '$1' is missing from PATH: $2"; }
 
 need_toolchain() { need rt "it is the Rattle toolchain's command, which proves and builds the crates"; }
-need_c() { need gcc "it builds the examples in C, and cargo links with it"; }
+need_c() { need gcc "it builds the examples in C, and cargo links with it; ar, which puts the archive together, comes with it"; }
 need_rust() {
     need cargo "it builds the second implementation (no crate from a registry is needed)"
     need_c
@@ -21,14 +21,20 @@ need_rust() {
 build=$root/build
 export CARGO_TARGET_DIR=$build/cargo
 
-# build_archive CRATE: the proved archive of a crate that C can call, kept where rt ci does not remove it
+# the proved archive that C can call, an object for each crate that exports to C, kept where rt ci does not remove it
 export RAILCADENCE_LIB=$build
 build_archive() {
-    (cd "$root" && rt staticlib "$1") >"$build/$1.log" 2>&1 || {
-        tail -n 20 "$build/$1.log" >&2
-        fail "the archive of $1 could not be proved and built: the last lines of build/$1.log are above"
-    }
-    cp "$root/target/staticlib/lib$1.a" "$build/"
+    objects=$build/objects
+    rm -rf "$objects"
+    mkdir -p "$objects"
+    for crate in c_gcra c_token_bucket c_http c_text; do
+        (cd "$root" && rt staticlib "$crate" && cd "$objects" && ar x "$root/target/staticlib/lib$crate.a") >"$build/archive.log" 2>&1 || {
+            tail -n 20 "$build/archive.log" >&2
+            fail "the crate $crate could not be proved and built for the archive: the last lines of build/archive.log are above"
+        }
+    done
+    rm -f "$build/librailcadence_c.a"
+    ar rcsD "$build/librailcadence_c.a" "$objects"/*.o || fail "no archive can be made from build/objects"
 }
 
 # the proved text program, kept where rt ci does not remove it; what has not changed since it was proved is not proved again

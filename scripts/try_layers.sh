@@ -1,12 +1,28 @@
 #!/bin/sh
 # Tries layers.sh on a folder of its own: it must report the lines below that end with '-- reported', each a way to unfold a
-# definition of another crate, and no other line.
+# definition of another crate, and each wrong crates.txt; and nothing else.
 set -eu
 layers=$(cd "$(dirname "$0")" && pwd)/layers.sh
 folder=$(mktemp -d)
 trap 'rm -rf "$folder"' EXIT
 cd "$folder"
 mkdir -p crates/shop/proofs
+fail() {
+    printf 'try_layers.sh: %s\n' "$*" >&2
+    exit 1
+}
+
+cat >crates.txt <<'END'
+# NAME: the crates that it uses
+
+## numbers: what everything is counted in
+ticks:
+rate: ticks # and nothing else
+
+## shops: who counts
+shop: ticks rate
+till: shop io libc
+END
 
 # '== NAME' begins the file NAME.antt
 awk '/^== / { file = "crates/shop/proofs/" $2 ".antt"; next } { print >file }' <<'END'
@@ -115,7 +131,42 @@ END
 if "$layers" "$folder" >found; then status=0; else status=$?; fi
 cut -d: -f1,2 found | sort >reported
 grep -rn -e '-- reported$' crates | cut -d: -f1,2 | sort >expected
-diff expected reported >&2 || { echo "try_layers.sh: expected (<) is not what layers.sh reports (>)" >&2; exit 1; }
-[ "$status" = 1 ] || { echo "try_layers.sh: layers.sh ends with status $status where it reports lines" >&2; exit 1; }
+diff expected reported >&2 || fail "expected (<) is not what layers.sh reports (>)"
+[ "$status" = 1 ] || fail "layers.sh ends with status $status where it reports lines"
 find crates -name '*_*' -exec rm {} +
-"$layers" "$folder" || { echo "try_layers.sh: layers.sh fails where it reports no line" >&2; exit 1; }
+"$layers" "$folder" || fail "layers.sh fails where it reports no line"
+
+# wrong LINE WORDS: layers.sh must report this line of the crates.txt that is given, in these words, and no other
+wrong() {
+    cat >crates.txt
+    if "$layers" "$folder" >found; then fail "layers.sh takes a crates.txt whose line $1 is wrong"; fi
+    if [ "$(cut -d: -f1,2 found)" != "crates.txt:$1" ] || ! grep -qF "$2" found; then
+        cat crates.txt found >&2
+        fail "of the crates.txt above, layers.sh does not report line $1 alone, with '$2'"
+    fi
+}
+wrong 5 'rate names shop of the later layer "shops"' <<'END'
+# NAME: the crates that it uses
+
+## numbers: what everything is counted in
+ticks:
+rate: ticks shop
+## shops: who counts
+shop: ticks
+END
+wrong 2 'rate names ticks, which is not above it' <<'END'
+## numbers
+rate: ticks
+ticks:
+END
+wrong 3 'rate names tickets, which is not listed' <<'END'
+## numbers
+ticks:
+rate: tickets io
+END
+wrong 2 'ticks stands under no heading' <<'END'
+# NAME: the crates that it uses
+ticks:
+## numbers
+rate: ticks
+END

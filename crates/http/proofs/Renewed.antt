@@ -1,5 +1,5 @@
 -- What a client may rely on of the reset that it is told: after so many seconds, with the table untouched, its whole burst is
--- there, and after any fewer it is not. It is so for any engine with the backlog law, over any columns that keep what is written.
+-- there, and after any fewer it is not. It is so for any account with the backlog law, over any columns that keep what is written.
 -- Assumes nothing.
 use mathlib.Core.Path.{_≡_}
 use mathlib.Core.Logic.{_⊎_, inl, inr}
@@ -7,33 +7,33 @@ use mathlib.Core.Bool.{true}
 use Prim.Native.Nat.{ℕ, _+_, _-_, _*_, _≤_, _<_}
 use native.Mathlib.Nat.{lt-of-not-le}
 use native.Mathlib.Omega.{arith}
-use Rattle.rate.specs.Engine.{Engine}
+use Rattle.rate.specs.Account.{Account}
 use Rattle.ticks.specs.Grains.{planOk, onClock}
-use Rattle.rate.proofs.Lawful.{Lawful}
+use Rattle.rate.proofs.Balanced.{Balanced}
 use Rattle.table.specs.Request.{Query, Request}
 use Rattle.table.specs.Rule.{ruleOf}
 use Rattle.table.specs.Slots.{Columns, carries}
 use Rattle.table.specs.Calls.{acquire, peek}
-use Rattle.table.proofs.Numbers.{Ground, admitted, admitted-new, exactly-when}
-use Rattle.table.proofs.PeekNumbers.{PeekGround, known, unknown, peek-exactly-when}
-use Rattle.table.proofs.Reset.{ResetMoment, wholeBurst, acquire-reset, peek-held-reset}
+use Rattle.law_calls.proofs.Numbers.{Ground, admitted, admitted-new, grounds}
+use Rattle.law_calls.proofs.PeekNumbers.{PeekGround, known, unknown, peek-grounds}
+use Rattle.law_calls.proofs.Reset.{ResetMoment, wholeBurst, acquire-reset, peek-held-reset}
 use Rattle.table.proofs.Stored.{Stored}
 use Rattle.http.proofs.Client.{told, told-of-look, within-plan}
 use Rattle.http.proofs.Least.{Covers, reset-least}
 
-module _ {C R : Type 0} (E : Engine R) (K : Columns C R) (q : Query) (c : C) where
+module _ {C P R : Type 0} (A : Account P R) (K : Columns C R) (q : Query P) (c : C) where
   -- what a reset after so many seconds is worth, of the columns as the call left them
   pub record Renewed (delay : ℕ) : Type 0 where
     -- with the table untouched, a client that waits that long or longer is admitted with its whole burst
     pub enough :
         (k : ℕ) → delay * 1000 ≤ k → onClock (q .moment + k) ≡ true →
-        acquire (ruleOf E) K (wholeBurst q (q .moment + k)) c .answer .number ≡ 0
+        acquire (ruleOf A) K (wholeBurst A q (q .moment + k)) c .answer .number ≡ 0
     -- and one that waits fewer whole seconds must wait
     pub short :
         (s : ℕ) → s < delay → onClock (q .moment + s * 1000) ≡ true →
-        acquire (ruleOf E) K (wholeBurst q (q .moment + s * 1000)) c .answer .number ≡ 8
+        acquire (ruleOf A) K (wholeBurst A q (q .moment + s * 1000)) c .answer .number ≡ 8
 
-  renewed : {delay reset : ℕ} → Covers delay (reset - q .moment) → ResetMoment E K q c reset → Renewed delay
+  renewed : {delay reset : ℕ} → Covers delay (reset - q .moment) → ResetMoment A K q c reset → Renewed delay
   renewed {delay} {reset} covers moment =
       record {
         enough = λ k h t.
@@ -45,30 +45,30 @@ module _ {C R : Type 0} (E : Engine R) (K : Columns C R) (q : Query) (c : C) whe
       }
 
 -- told of the answer to a request
-module _ {C R : Type 0} {E : Engine R} (L : Lawful E) (K : Columns C R) (S : Stored K) (r : Request) (c : C) where
-  plan-admitted : Ground E K r c 0 → planOk (r .query .plan) ≡ true
-  plan-admitted (admitted p i o s a) = p .asked .plan
-  plan-admitted (admitted-new p i u v) = p .asked .plan
+module _ {C P R : Type 0} {A : Account P R} (L : Balanced A) (K : Columns C R) (S : Stored K) (r : Request P) (c : C) where
+  plan-admitted : Ground A K r c 0 → planOk (A .plan (r .query .setting)) ≡ true
+  plan-admitted (admitted p i o s a) = L .ok-plan _ (p .asked .plan)
+  plan-admitted (admitted-new p i u v) = L .ok-plan _ (p .asked .plan)
 
   plan-within :
-      (acquire (ruleOf E) K r c .answer .number ≡ 0) ⊎ (acquire (ruleOf E) K r c .answer .number ≡ 8) → planOk (r .query .plan) ≡ true
-  plan-within (inl e) = plan-admitted (exactly-when E K r c L 0 .0 e)
-  plan-within (inr e) = within-plan L K r c (exactly-when E K r c L 8 .0 e)
+      (acquire (ruleOf A) K r c .answer .number ≡ 0) ⊎ (acquire (ruleOf A) K r c .answer .number ≡ 8) → planOk (A .plan (r .query .setting)) ≡ true
+  plan-within (inl e) = plan-admitted (grounds A K r c L e)
+  plan-within (inr e) = within-plan L K r c (grounds A K r c L e)
 
   pub reset-kept :
-      (acquire (ruleOf E) K r c .answer .number ≡ 0) ⊎ (acquire (ruleOf E) K r c .answer .number ≡ 8) →
-      Renewed E K (r .query) (acquire (ruleOf E) K r c .after) (told E K r c .reset)
+      (acquire (ruleOf A) K r c .answer .number ≡ 0) ⊎ (acquire (ruleOf A) K r c .answer .number ≡ 8) →
+      Renewed A K (r .query) (acquire (ruleOf A) K r c .after) (told A K r c .reset)
   reset-kept n =
-      renewed E K (r .query) (acquire (ruleOf E) K r c .after) (reset-least _ _ _ (plan-within n) n) (acquire-reset L K S r c n)
+      renewed A K (r .query) (acquire (ruleOf A) K r c .after) (reset-least _ _ _ (plan-within n) n) (acquire-reset L K S r c n)
 
 -- told of a look at a subscriber with a slot
-module _ {C R : Type 0} {E : Engine R} (L : Lawful E) (K : Columns C R) (q : Query) (c : C) where
-  plan-seen : PeekGround E K q c 0 → planOk (q .plan) ≡ true
-  plan-seen (known a i o s) = a .plan
-  plan-seen (unknown a u) = a .plan
+module _ {C P R : Type 0} {A : Account P R} (L : Balanced A) (K : Columns C R) (q : Query P) (c : C) where
+  plan-seen : PeekGround A K q c 0 → planOk (A .plan (q .setting)) ≡ true
+  plan-seen (known a i o s) = L .ok-plan _ (a .plan)
+  plan-seen (unknown a u) = L .ok-plan _ (a .plan)
 
   pub look-reset-kept :
-      (i : ℕ) → i < K .slots c → carries (K .ids c) (q .subscriber) i ≡ true → peek (ruleOf E) K q c .answer .number ≡ 0 →
-      Renewed E K q c (told-of-look L K q c .reset)
+      (i : ℕ) → i < K .slots c → carries (K .ids c) (q .subscriber) i ≡ true → peek (ruleOf A) K q c .answer .number ≡ 0 →
+      Renewed A K q c (told-of-look L K q c .reset)
   look-reset-kept i within carried e =
-      renewed E K q c (reset-least _ _ _ (plan-seen (peek-exactly-when E K q c L 0 .0 e)) (inl e)) (peek-held-reset L K q c i within carried e)
+      renewed A K q c (reset-least _ _ _ (plan-seen (peek-grounds A K q c L e)) (inl e)) (peek-held-reset L K q c i within carried e)

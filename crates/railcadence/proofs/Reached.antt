@@ -7,14 +7,14 @@ use Prim.Native.Nat.{ℕ, _+_, _-_, _≤_}
 use native.Mathlib.Nat.{add-zero}
 use native.Mathlib.Omega.{arith}
 use lib.ListN.{length, length-append}
-use Rattle.transcript.specs.declared.stream.Session.{Session}
-use Rattle.session.specs.Stream.{State, said, after, ending}
-use Rattle.session.specs.Session.{Lent}
-use Rattle.transcript.specs.Running.{stateOf, started, endingOf}
-use Rattle.gcra_table.specs.Table.{tableOf}
-use Rattle.protocol.specs.Reply.{header}
-use Rattle.session.proofs.Streamed.{said-none, after-none, said-append, after-append, streamed}
-use Rattle.session.proofs.LineEnds.{ending-any}
+use Rattle.text_transcript.specs.declared.stream.Session.{Session}
+use Rattle.text_session.specs.Stream.{State, said, after, ending}
+use Rattle.text_session.specs.Session.{Lent}
+use Rattle.text_transcript.specs.Running.{stateOf, started, endingOf}
+use Rattle.table_gcra.specs.Table.{tableOf}
+use Rattle.text_protocol.specs.Reply.{header}
+use Rattle.text_session.proofs.Streamed.{said-none, after-none, said-append, after-append, streamed}
+use Rattle.text_session.proofs.LineEnds.{ending-any}
 use Rattle.railcadence.specs.declared.serve.Input.{Input}
 use Rattle.railcadence.specs.declared.serve.Input.the-variants.{Got, End, Failed}
 use Rattle.railcadence.specs.declared.serve.Answered.{Answered}

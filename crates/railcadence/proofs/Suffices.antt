@@ -5,12 +5,12 @@ use mathlib.Core.List.{List, []}
 use Prim.Native.Nat.{ℕ, _+_, _*_, _≤_}
 use native.Mathlib.Omega.{arith}
 use lib.ListN.{length}
-use Rattle.transcript.specs.declared.stream.Session.{Session}
-use Rattle.session.specs.Stream.{State, said}
-use Rattle.protocol.specs.Reply.{mostReply}
-use Rattle.session.specs.Session.{Lent}
-use Rattle.transcript.specs.Running.{stateOf, endingOf}
-use Rattle.session.proofs.Lengths.{said-most, ending-most, endings-most}
+use Rattle.text_transcript.specs.declared.stream.Session.{Session}
+use Rattle.text_session.specs.Stream.{State, said}
+use Rattle.text_protocol.specs.Reply.{mostReply}
+use Rattle.text_session.specs.Session.{Lent}
+use Rattle.text_transcript.specs.Running.{stateOf, endingOf}
+use Rattle.text_session.proofs.Lengths.{said-most, ending-most, endings-most}
 
 -- what is said of some bytes fits, and what is said at the input's end
 pub answers-fit : (σ : State) (bytes : List ℕ) {n room : ℕ} → n ≡ 0 + length (said σ bytes) → mostReply * length bytes ≤ room → n ≤ room

@@ -3,13 +3,13 @@ use mathlib.Core.Path.{_≡_}
 use mathlib.Core.List.{List, _++_}
 use Prim.Native.Nat.{ℕ, _+_, _-_, _*_, _%_, _^_, _≤_}
 use lib.ListN.{length, take}
-use Rattle.gcra_table.specs.Table.{Table, tableOf}
-use Rattle.transcript.specs.declared.stream.Session.{Session}
-use Rattle.transcript.specs.Running.{Ready, stateOf}
-use Rattle.session.specs.Stream.{State, said, after, ending, start}
-use Rattle.protocol.specs.Reply.{mostReply}
-use Rattle.protocol.specs.Reply.{header}
-use Rattle.session.specs.Transcript.{transcript}
+use Rattle.table_gcra.specs.Table.{Table, tableOf}
+use Rattle.text_transcript.specs.declared.stream.Session.{Session}
+use Rattle.text_transcript.specs.Running.{Ready, stateOf}
+use Rattle.text_session.specs.Stream.{State, said, after, ending, start}
+use Rattle.text_protocol.specs.Reply.{mostReply}
+use Rattle.text_protocol.specs.Reply.{header}
+use Rattle.text_session.specs.Transcript.{transcript}
 use Rattle.railcadence.specs.declared.serve.Input.{Input}
 use Rattle.railcadence.specs.declared.serve.Input.the-variants.{Got, End, Failed}
 use Rattle.railcadence.specs.declared.serve.Answered.{Answered}

@@ -4,18 +4,18 @@ ghost use mathlib.Core.Path.{_≡_};
 ghost use mathlib.Core.Bool.{true};
 ghost use Prim.Native.Nat.{_≤_};
 ghost use lib.ListN.{length, take};
-ghost use Rattle.session.specs.Session.{Lent};
-ghost use Rattle.transcript.specs.Running.{Ready, stateOf, endingOf};
-ghost use Rattle.protocol.specs.Command.{mostLine};
-ghost use Rattle.protocol.specs.Reply.{header, mostReply};
+ghost use Rattle.text_session.specs.Session.{Lent};
+ghost use Rattle.text_transcript.specs.Running.{Ready, stateOf, endingOf};
+ghost use Rattle.text_protocol.specs.Command.{mostLine};
+ghost use Rattle.text_protocol.specs.Reply.{header, mostReply};
 ghost use Rattle.railcadence.specs.Serving.{Ample, Counted, Took, Written, Onwards, Finished, accountOf, Answers, Serves};
 use libc::STDERR_FILENO;
 use libc::STDIN_FILENO;
 use libc::STDOUT_FILENO;
-use protocol::reply;
 use std::num::wrapping_add_u64;
-use transcript::stream;
-use transcript::stream::Session;
+use text_protocol::reply;
+use text_transcript::stream;
+use text_transcript::stream::Session;
 
 // What a read led to: so many bytes stand at the start of the piece, or the input has ended, or it cannot be read.
 enum Input {

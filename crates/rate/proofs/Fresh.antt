@@ -10,9 +10,9 @@ use borrow.Author.Tests.{le-leb}
 use Rattle.ticks.specs.declared.plan.Plan.{Plan}
 use Rattle.ticks.specs.Grains.{price, capacity}
 use Rattle.rate.specs.Decision.{admissible, remaining, reported}
-use Rattle.rate.specs.Engine.{Engine, report}
+use Rattle.rate.specs.Account.{Account, report}
 use Rattle.rate.proofs.Cases.{report-sound}
-use Rattle.rate.proofs.Lawful.{Lawful}
+use Rattle.rate.proofs.Balanced.{Balanced}
 use Rattle.ticks.proofs.Limits.{capacity-is, price-within}
 use Rattle.rate.proofs.Reset.{reset-of-nothing}
 
@@ -28,16 +28,16 @@ pub nothing-owed :
 unfolding reported remaining
 nothing-owed p at unit = simp (sub-zero, capacity-is p, mul-div-right (p .burst) unit, reset-of-nothing p at)
 
-module _ {R : Type 0} {E : Engine R} (L : Lawful E) (p : Plan) (at : ℕ) where
-  pub fresh-admits : (cost : ℕ) → cost ≤ p .burst → E .admits p at (E .fresh p at) cost ≡ true
+module _ {P R : Type 0} {A : Account P R} (L : Balanced A) (p : P) (at : ℕ) where
+  pub fresh-admits : (cost : ℕ) → cost ≤ A .plan p .burst → A .admits p at (A .fresh p at) cost ≡ true
   fresh-admits cost h =
-      L .admits-iff p at (E .fresh p at) cost
-      ∙ ap (λ (b : ℕ). admissible p b cost) (L .fresh-owes-nothing p at)
-      ∙ burst-admissible p cost h
+      L .admits-iff p at (A .fresh p at) cost
+      ∙ ap (λ (b : ℕ). admissible (A .plan p) b cost) (L .fresh-owes-nothing p at)
+      ∙ burst-admissible (A .plan p) cost h
 
   pub fresh-report :
-      1 ≤ p .period → report E p at (E .fresh p at) ≡ record { number = 0; left = p .burst; reset = at; wait = 0 }
-  fresh-report unit =
-      report-sound E p at (E .fresh p at) (L .fresh-sound p at)
-      ∙ ap (λ (b : ℕ). reported p at b) (L .fresh-owes-nothing p at)
-      ∙ nothing-owed p at unit
+      A .ok p ≡ true → 1 ≤ A .plan p .period → report A p at (A .fresh p at) ≡ record { number = 0; left = A .plan p .burst; reset = at; wait = 0 }
+  fresh-report o unit =
+      report-sound A p at (A .fresh p at) (L .fresh-sound p at o)
+      ∙ ap (λ (b : ℕ). reported (A .plan p) at b) (L .fresh-owes-nothing p at)
+      ∙ nothing-owed (A .plan p) at unit

@@ -2,7 +2,9 @@
 pub mod Answers
 pub mod Left
 pub mod Lawful
+pub mod Balanced
 pub mod Cases
+pub mod Alone
 pub mod Judging
 pub mod Wait
 pub mod Reset

@@ -9,10 +9,11 @@ use Prim.Native.Nat.{ℕ, _+_, _-_, _≤_}
 use Rattle.ticks.specs.declared.plan.Plan.{Plan}
 use Rattle.ticks.specs.Grains.{ticksIn, price}
 use Rattle.rate.specs.Decision.{admissible, admitted, throttled}
-use Rattle.rate.specs.Engine.{Engine, Judged, judge}
+use Rattle.rate.specs.Engine.{Engine}
+use Rattle.rate.specs.Account.{alone, Judged, judge}
 use Rattle.rate.specs.Life.{Ask, Rising, newest, lived, verdicts, Agreement}
 use Rattle.rate.proofs.Lawful.{Lawful}
-use Rattle.rate.proofs.Cases.{judge-admitted, judge-throttled}
+use Rattle.rate.proofs.Alone.{judge-admitted, judge-throttled}
 
 pub record Alike {R S : Type 0} (E : Engine R) (F : Engine S) (p : Plan) (at : ℕ) (r : R) (s : S) : Type 0 where
   pub left-sound : E .sound p at r ≡ true
@@ -43,10 +44,10 @@ module _ {R S : Type 0} {E : Engine R} {F : Engine S} (L : Lawful E) (M : Lawful
       ∙ sym (M .admits-iff p at s cost)
 
   pub ask-agrees :
-      (at : ℕ) (r : R) (s : S) (cost : ℕ) → Alike E F p at r s → Agreed E F p at (judge E p at r cost) (judge F p at s cost)
+      (at : ℕ) (r : R) (s : S) (cost : ℕ) → Alike E F p at r s → Agreed E F p at (judge (alone E) p at r cost) (judge (alone F) p at s cost)
   ask-agrees at r s cost a = by (E .admits p at r cost) refl
     where
-      by : (t : Bool) → E .admits p at r cost ≡ t → Agreed E F p at (judge E p at r cost) (judge F p at s cost)
+      by : (t : Bool) → E .admits p at r cost ≡ t → Agreed E F p at (judge (alone E) p at r cost) (judge (alone F) p at s cost)
       by true e =
           let f = sym (same-test at r s cost a) ∙ e in
           rw (judge-admitted E p at r cost (a .left-sound) e, judge-admitted F p at s cost (a .right-sound) f)
@@ -72,7 +73,7 @@ module _ {R S : Type 0} {E : Engine R} {F : Engine S} (L : Lawful E) (M : Lawful
   life-agrees [] from r s up a = (refl, a)
   life-agrees (q ∷ rest) from r s up a =
       let now = ask-agrees (q .moment) r s (q .cost) (later from (q .moment) r s (up .0) a) in
-      let then = life-agrees rest (q .moment) (judge E p (q .moment) r (q .cost) .after) (judge F p (q .moment) s (q .cost) .after) (up .1) (now .after) in
+      let then = life-agrees rest (q .moment) (judge (alone E) p (q .moment) r (q .cost) .after) (judge (alone F) p (q .moment) s (q .cost) .after) (up .1) (now .after) in
       (ap₂ _∷_ (now .verdict) (then .0), then .1)
 
   -- over one record's life, with moments that never fall, the two agree

@@ -1,17 +1,17 @@
 -- A look is an ask that costs nothing: the same verdict, and the record stays. And it shows what an ask has just reported.
 -- Assumes nothing.
 use mathlib.Core.Path.{_≡_, refl, sym, ap, _∙_}
-use mathlib.Core.Bool.{Bool, true, false}
-use Prim.Native.Nat.{ℕ, _+_}
+use mathlib.Core.Bool.{true}
+use Prim.Native.Nat.{ℕ, zero, suc, _+_}
 use native.Mathlib.Nat.{add-zero}
 use native.Mathlib.Omega.{arith}
-use borrow.Author.Tests.{le-leb}
+use borrow.Author.Tests.{le-leb, ne-eqb}
 use Rattle.ticks.specs.declared.plan.Plan.{Plan}
 use Rattle.ticks.specs.Grains.{price, capacity}
 use Rattle.rate.specs.Decision.{admissible, reported, admitted, throttled}
-use Rattle.rate.specs.Engine.{Engine, judge, report}
-use Rattle.rate.proofs.Cases.{judge-corrupt, judge-admitted, report-corrupt, report-sound}
-use Rattle.rate.proofs.Lawful.{Lawful}
+use Rattle.rate.specs.Account.{Account, judge, report}
+use Rattle.rate.proofs.Cases.{judge-faulty, judge-admitted, report-faulty, report-sound}
+use Rattle.rate.proofs.Balanced.{Balanced}
 use Rattle.ticks.proofs.Products.{price-none}
 
 -- nothing costs nothing
@@ -19,28 +19,30 @@ admitted-none : (p : Plan) (at backlog : ℕ) → admitted p at backlog 0 ≡ re
 unfolding admitted
 admitted-none p at backlog = ap (λ (b : ℕ). reported p at b) (ap (λ (x : ℕ). backlog + x) (price-none p) ∙ add-zero backlog)
 
-module _ {R : Type 0} {E : Engine R} (L : Lawful E) (p : Plan) (at : ℕ) (r : R) where
-  admits-none : E .sound p at r ≡ true → E .admits p at r 0 ≡ true
+module _ {P R : Type 0} {A : Account P R} (L : Balanced A) (p : P) (at : ℕ) (r : R) where
+  admits-none : A .fault p at r ≡ 0 → A .admits p at r 0 ≡ true
   unfolding admissible
-  admits-none s = L .admits-iff p at r 0 ∙ le-leb (E .backlog p at r + price p 0) (capacity p) (omega (arith, price-none p, L .within p at r s))
+  admits-none s = L .admits-iff p at r 0 ∙ le-leb (A .backlog p at r + price (A .plan p) 0) (capacity (A .plan p)) (omega (arith, price-none (A .plan p), L .within p at r s))
 
-  pub look-is-free-ask : report E p at r ≡ judge E p at r 0 .verdict
-  look-is-free-ask = by (E .sound p at r) refl
+  pub look-is-free-ask : report A p at r ≡ judge A p at r 0 .verdict
+  look-is-free-ask = by (A .fault p at r) refl
     where
-      by : (t : Bool) → E .sound p at r ≡ t → report E p at r ≡ judge E p at r 0 .verdict
-      by true s =
-          report-sound E p at r s ∙ sym (admitted-none p at (E .backlog p at r))
-          ∙ sym (ap (λ j. j .verdict) (judge-admitted E p at r 0 s (admits-none s)))
-      by false s = report-corrupt E p at r s ∙ sym (ap (λ j. j .verdict) (judge-corrupt E p at r 0 s))
+      by : (n : ℕ) → A .fault p at r ≡ n → report A p at r ≡ judge A p at r 0 .verdict
+      by zero s =
+          report-sound A p at r s ∙ sym (admitted-none (A .plan p) at (A .backlog p at r))
+          ∙ sym (ap (λ j. j .verdict) (judge-admitted A p at r 0 s (admits-none s)))
+      by (suc n) s =
+          let some = ne-eqb (A .fault p at r) 0 (λ z. omega arith) in
+          report-faulty A p at r some ∙ sym (ap (λ j. j .verdict) (judge-faulty A p at r 0 some))
 
   -- a look at the record that an admission left shows what the admission reported
   pub look-after :
-      (cost : ℕ) → E .admits p at r cost ≡ true →
-      report E p at (E .spend p at r cost) ≡ admitted p at (E .backlog p at r) cost
+      (cost : ℕ) → A .ok p ≡ true → A .admits p at r cost ≡ true →
+      report A p at (A .spend p at r cost) ≡ admitted (A .plan p) at (A .backlog p at r) cost
   unfolding admitted
-  look-after cost a =
-      report-sound E p at (E .spend p at r cost) (L .spends-sound p at r cost a)
-      ∙ ap (λ (b : ℕ). reported p at b) (L .spends p at r cost a)
+  look-after cost o a =
+      report-sound A p at (A .spend p at r cost) (L .spends-sound p at r cost o a)
+      ∙ ap (λ (b : ℕ). reported (A .plan p) at b) (L .spends p at r cost a)
 
 -- a denial reports what a look shows, and the wait
 pub throttled-left : (p : Plan) (at backlog cost : ℕ) → throttled p at backlog cost .left ≡ reported p at backlog .left

@@ -1,4 +1,4 @@
--- The reset is the first moment at which nothing is owed, for any engine with the backlog law: it is the end of the wait for a
+-- The reset is the first moment at which nothing is owed, for any account with the backlog law: it is the end of the wait for a
 -- whole burst, which is admitted exactly where nothing is owed, and that wait is the least.
 -- Assumes nothing.
 use mathlib.Core.Path.{_≡_, sym, ap, _∙_}
@@ -10,8 +10,8 @@ use borrow.Author.Tests.{le-leb, lt-leb, ne-eqb}
 use Rattle.ticks.specs.declared.plan.Plan.{Plan}
 use Rattle.ticks.specs.Grains.{price, capacity, divUp}
 use Rattle.rate.specs.Decision.{admissible, resetAt, retryAfter}
-use Rattle.rate.specs.Engine.{Engine}
-use Rattle.rate.proofs.Lawful.{Lawful}
+use Rattle.rate.specs.Account.{Account}
+use Rattle.rate.proofs.Balanced.{Balanced}
 use Rattle.ticks.proofs.Limits.{capacity-is-price}
 use Rattle.ticks.proofs.Rounding.{divUp-zero}
 use Rattle.ticks.proofs.Tests.{leb-same}
@@ -45,19 +45,19 @@ unfolding resetAt
 reset-from p at backlog = omega arith
 
 module _
-    {R : Type 0} {E : Engine R} (L : Lawful E) (p : Plan) (at : ℕ) (r : R) (rate : 1 ≤ p .limit) (s : E .sound p at r ≡ true)
+    {P R : Type 0} {A : Account P R} (L : Balanced A) (p : P) (at : ℕ) (r : R) (rate : 1 ≤ A .plan p .limit) (s : A .fault p at r ≡ 0)
     (m : ℕ) (from : at ≤ m) where
   -- with the record untouched, a whole burst is admitted from the reset on, and at no moment before
-  pub burst-from-reset : E .admits p m r (p .burst) ≡ leb (resetAt p at (E .backlog p at r)) m
+  pub burst-from-reset : A .admits p m r (A .plan p .burst) ≡ leb (resetAt (A .plan p) at (A .backlog p at r)) m
   burst-from-reset =
       let until : at + (m - at) ≡ m = omega arith in
-      let reset = reset-is-burst-wait p at (E .backlog p at r) in
-      ap (λ (k : ℕ). E .admits p k r (p .burst)) (sym until)
-      ∙ least-wait L p at r (p .burst) rate (omega arith) s (m - at)
-      ∙ leb-same (retryAfter p (E .backlog p at r) (p .burst)) (m - at) (resetAt p at (E .backlog p at r)) m
+      let reset = reset-is-burst-wait (A .plan p) at (A .backlog p at r) in
+      ap (λ (k : ℕ). A .admits p k r (A .plan p .burst)) (sym until)
+      ∙ least-wait L p at r (A .plan p .burst) rate (omega arith) s (m - at)
+      ∙ leb-same (retryAfter (A .plan p) (A .backlog p at r) (A .plan p .burst)) (m - at) (resetAt (A .plan p) at (A .backlog p at r)) m
       (λ h. omega arith) (λ h. omega arith)
 
   -- .. and nothing is owed from the reset on, and something at every moment before
-  pub drained-from-reset : eqb (E .backlog p m r) 0 ≡ leb (resetAt p at (E .backlog p at r)) m
+  pub drained-from-reset : eqb (A .backlog p m r) 0 ≡ leb (resetAt (A .plan p) at (A .backlog p at r)) m
   drained-from-reset =
-      sym (burst-iff-nothing-owed p (E .backlog p m r)) ∙ sym (L .admits-iff p m r (p .burst)) ∙ burst-from-reset
+      sym (burst-iff-nothing-owed (A .plan p) (A .backlog p m r)) ∙ sym (L .admits-iff p m r (A .plan p .burst)) ∙ burst-from-reset

@@ -1,4 +1,4 @@
--- A wait is the least one, at least 1, and at most what the cost alone takes, for any engine with the backlog law.
+-- A wait is the least one, at least 1, and at most what the cost alone takes, for any account with the backlog law.
 -- Assumes nothing.
 use mathlib.Core.Path.{_≡_, _∙_}
 use mathlib.Core.Bool.{true, false}
@@ -10,8 +10,8 @@ use borrow.Author.Tests.{leb-false}
 use Rattle.ticks.specs.declared.plan.Plan.{Plan}
 use Rattle.ticks.specs.Grains.{ticksIn, price, capacity, divUp}
 use Rattle.rate.specs.Decision.{admissible, retryAfter}
-use Rattle.rate.specs.Engine.{Engine}
-use Rattle.rate.proofs.Lawful.{Lawful}
+use Rattle.rate.specs.Account.{Account}
+use Rattle.rate.proofs.Balanced.{Balanced}
 use Rattle.ticks.proofs.Limits.{ticks-are, price-within}
 use Rattle.ticks.proofs.Rounding.{divUp-least, divUp-mono}
 use Rattle.ticks.proofs.Tests.{leb-same}
@@ -44,7 +44,7 @@ module _ (p : Plan) (backlog cost : ℕ) (rate : 1 ≤ p .limit) where
 
 -- the wait is the least: with the record untouched, the same ask k ms later is admitted exactly if the wait is at most k
 pub least-wait :
-    {R : Type 0} {E : Engine R} → Lawful E → (p : Plan) (at : ℕ) (r : R) (cost : ℕ) → 1 ≤ p .limit → cost ≤ p .burst →
-    E .sound p at r ≡ true → (k : ℕ) → E .admits p (at + k) r cost ≡ leb (retryAfter p (E .backlog p at r) cost) k
-least-wait {E = E} L p at r cost rate payable s k =
-    L .admits-iff p (at + k) r cost ∙ rw (L .drains p at (at + k) r (omega arith) s, add-sub-cancel-left at k) (drained-admits p (E .backlog p at r) cost rate payable k)
+    {P R : Type 0} {A : Account P R} → Balanced A → (p : P) (at : ℕ) (r : R) (cost : ℕ) → 1 ≤ A .plan p .limit → cost ≤ A .plan p .burst →
+    A .fault p at r ≡ 0 → (k : ℕ) → A .admits p (at + k) r cost ≡ leb (retryAfter (A .plan p) (A .backlog p at r) cost) k
+least-wait {A = A} L p at r cost rate payable s k =
+    L .admits-iff p (at + k) r cost ∙ rw (L .drains p at (at + k) r (omega arith) s, add-sub-cancel-left at k) (drained-admits (A .plan p) (A .backlog p at r) cost rate payable k)

@@ -4,7 +4,8 @@ use mathlib.Core.Path.{_≡_}
 use mathlib.Core.List.{List, [], _∷_}
 use Rattle.ticks.specs.declared.plan.Plan.{Plan}
 use Rattle.rate.specs.Decision.{Verdict}
-use Rattle.rate.specs.Engine.{Engine, judge}
+use Rattle.rate.specs.Engine.{Engine}
+use Rattle.rate.specs.Account.{alone, judge}
 
 pub record Ask : Type 0 where
   pub moment : ℕ
@@ -23,12 +24,12 @@ newest from (a ∷ rest) = newest (a .moment) rest
 -- the record afterwards
 unfoldable pub lived : {R : Type 0} → Engine R → Plan → R → List Ask → R
 lived E p r [] = r
-lived E p r (a ∷ rest) = lived E p (judge E p (a .moment) r (a .cost) .after) rest
+lived E p r (a ∷ rest) = lived E p (judge (alone E) p (a .moment) r (a .cost) .after) rest
 
 -- the answer to each ask
 unfoldable pub verdicts : {R : Type 0} → Engine R → Plan → R → List Ask → List Verdict
 verdicts E p r [] = []
-verdicts E p r (a ∷ rest) = judge E p (a .moment) r (a .cost) .verdict ∷ verdicts E p (judge E p (a .moment) r (a .cost) .after) rest
+verdicts E p r (a ∷ rest) = judge (alone E) p (a .moment) r (a .cost) .verdict ∷ verdicts E p (judge (alone E) p (a .moment) r (a .cost) .after) rest
 
 -- two engines agree over the life of one record that starts fresh: the same answers, and at any moment from the newest on
 -- the same backlog

@@ -1,6 +1,5 @@
 // The answers (document 01, 'When the gate says no'): an answer names the subscriber and carries exactly one outcome.
 ghost use mathlib.Core.Path.{_≡_};
-ghost use lib.Dec.{eqb};
 ghost use Rattle.rate.specs.Answer.{reasonNumber, verdictOf, answered, numbersOf, clearedNumbers};
 ghost use Rattle.rate.specs.Decision.{bare};
 use ticks::units::Millis;
@@ -76,19 +75,6 @@ fn bare(number: u64, subscriber: u64) -> Numbers
         left: 0,
         reset: 0,
         wait: 0,
-    }
-}
-
-impl Outcome {
-    // Whether the number is 0.
-    pub fn is_admitted(self) -> bool
-        ensures { λ r. ⌜ r ≡ eqb (verdictOf self .number) 0 ⌝ }
-    {
-        match self {
-            Outcome::Admitted { .. } => true,
-            Outcome::Throttled { .. } => false,
-            Outcome::Refused(_) => false,
-        }
     }
 }
 

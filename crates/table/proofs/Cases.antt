@@ -6,7 +6,7 @@ use Prim.Native.Nat.{ℕ}
 use lib.Dec.{eqb}
 use Rattle.rate.specs.Answer.{answered}
 use Rattle.rate.specs.Decision.{Verdict, bare}
-use Rattle.rate.specs.Engine.{Judged}
+use Rattle.rate.specs.Account.{guard, Judged, Settled, kept, spent, settled}
 use Rattle.table.specs.declared.search.Place.{Place}
 use Rattle.table.specs.declared.search.Place.the-variants.{Nowhere, At}
 use Rattle.table.specs.Request.{Query, Request}
@@ -14,78 +14,86 @@ use Rattle.table.specs.Checks.{slotsOk, queryCheck, requestCheck}
 use Rattle.table.specs.Rule.{Rule}
 use Rattle.table.specs.Slots.{Columns, own, lowestFree}
 use Rattle.table.specs.Calls.{Slot, none, at, keep, write, ruled, newcomer, slotFrom, slotFor, judgeIn, judgeCall}
-use Rattle.table.specs.Calls.{commit, acquire, heldAt, held, peekVerdict, peek, clear}
-use Rattle.table.proofs.Checks.{guard-0, guard-not-0}
+use Rattle.table.specs.Calls.{commit, acquire, heldAt, held, peekVerdict, peek, clear, gate, toll}
+use Rattle.rate.proofs.Cases.{guard-0, guard-not-0, settled-spent, settled-kept}
+
+-- what becomes of a record, in its slot
+module _ {R : Type 0} (i : ℕ) where
+  pub ruled-kept : (v : Verdict) → ruled {R = R} i (kept v) ≡ keep v
+  unfolding ruled
+  ruled-kept v = refl
+
+  pub ruled-spent : (v : Verdict) (held : R) → ruled i (spent v held) ≡ write v i held
+  unfolding ruled
+  ruled-spent v held = refl
 
 -- only an admission writes
 module _ {R : Type 0} (i : ℕ) (j : Judged R) where
-  pub ruled-writes : eqb (j .verdict .number) 0 ≡ true → ruled i j ≡ write (j .verdict) i (j .after)
-  unfolding ruled
-  ruled-writes e = rw e
+  pub ruled-writes : eqb (j .verdict .number) 0 ≡ true → ruled i (settled j) ≡ write (j .verdict) i (j .after)
+  ruled-writes e = ap (λ (s : Settled R). ruled i s) (settled-spent j e) ∙ ruled-spent i (j .verdict) (j .after)
 
-  pub ruled-keeps : eqb (j .verdict .number) 0 ≡ false → ruled i j ≡ keep (j .verdict)
-  unfolding ruled
-  ruled-keeps e = rw e
+  pub ruled-keeps : eqb (j .verdict .number) 0 ≡ false → ruled i (settled j) ≡ keep (j .verdict)
+  ruled-keeps e = ap (λ (s : Settled R). ruled i s) (settled-kept j e) ∙ ruled-kept i (j .verdict)
 
-module _ {C R : Type 0} (U : Rule R) (K : Columns C R) (c : C) where
-  module _ (q : Query) where
+module _ {C P R : Type 0} (U : Rule P R) (K : Columns C R) (c : C) where
+  module _ (q : Query P) where
     -- the slot of an ask
-    pub slot-own : {i : ℕ} → own K q c ≡ At i → slotFor U K q c ≡ at i (K .row c i)
+    pub slot-own : {i : ℕ} → own K (q .subscriber) c ≡ At i → slotFor U K q c ≡ at i (K .row c i)
     unfolding slotFor slotFrom
     slot-own e = ap (λ (p : Place). slotFrom U K q c p) e
 
-    slot-newcomer : {p : Place} → own K q c ≡ Nowhere → lowestFree U K q c ≡ p → slotFor U K q c ≡ newcomer U q p
+    slot-newcomer : {p : Place} → own K (q .subscriber) c ≡ Nowhere → lowestFree U K (q .setting) (q .moment) c ≡ p → slotFor U K q c ≡ newcomer U q p
     unfolding slotFor slotFrom
     slot-newcomer e f = ap (λ (p : Place). slotFrom U K q c p) e ∙ ap (λ (p : Place). newcomer U q p) f
 
     pub slot-new :
-        {i : ℕ} → own K q c ≡ Nowhere → lowestFree U K q c ≡ At i →
-        slotFor U K q c ≡ at i (U .fresh (q .plan) (q .moment))
+        {i : ℕ} → own K (q .subscriber) c ≡ Nowhere → lowestFree U K (q .setting) (q .moment) c ≡ At i →
+        slotFor U K q c ≡ at i (U .fresh (q .setting) (q .moment))
     unfolding newcomer
     slot-new e f = slot-newcomer e f
 
-    pub slot-none : own K q c ≡ Nowhere → lowestFree U K q c ≡ Nowhere → slotFor U K q c ≡ none
+    pub slot-none : own K (q .subscriber) c ≡ Nowhere → lowestFree U K (q .setting) (q .moment) c ≡ Nowhere → slotFor U K q c ≡ none
     unfolding newcomer
     slot-none e f = slot-newcomer e f
 
     -- the record of a look
-    pub held-own : {i : ℕ} → own K q c ≡ At i → held U K q c ≡ K .row c i
+    pub held-own : {i : ℕ} → own K (q .subscriber) c ≡ At i → held U K q c ≡ K .row c i
     unfolding held heldAt
     held-own e = ap (λ (p : Place). heldAt U K q c p) e
 
-    pub held-fresh : own K q c ≡ Nowhere → held U K q c ≡ U .fresh (q .plan) (q .moment)
+    pub held-fresh : own K (q .subscriber) c ≡ Nowhere → held U K q c ≡ U .fresh (q .setting) (q .moment)
     unfolding held heldAt
     held-fresh e = ap (λ (p : Place). heldAt U K q c p) e
 
-    pub peek-refused : eqb (queryCheck q (K .slots c)) 0 ≡ false → peekVerdict U K q c ≡ bare (queryCheck q (K .slots c))
+    pub peek-refused : eqb (queryCheck (gate U K q c)) 0 ≡ false → peekVerdict U K q c ≡ bare (queryCheck (gate U K q c))
     unfolding peekVerdict
-    peek-refused h = guard-not-0 bare (queryCheck q (K .slots c)) (U .report (q .plan) (q .moment) (held U K q c)) h
+    peek-refused h = guard-not-0 bare (queryCheck (gate U K q c)) (U .report (q .setting) (q .moment) (held U K q c)) h
 
     pub peek-reported :
-        queryCheck q (K .slots c) ≡ 0 → peekVerdict U K q c ≡ U .report (q .plan) (q .moment) (held U K q c)
+        queryCheck (gate U K q c) ≡ 0 → peekVerdict U K q c ≡ U .report (q .setting) (q .moment) (held U K q c)
     unfolding peekVerdict
-    peek-reported e = guard-0 bare (queryCheck q (K .slots c)) (U .report (q .plan) (q .moment) (held U K q c)) e
+    peek-reported e = guard-0 bare (queryCheck (gate U K q c)) (U .report (q .setting) (q .moment) (held U K q c)) e
 
-  module _ (r : Request) where
+  module _ (r : Request P) where
     -- an ask judged
     pub judge-refused :
-        eqb (requestCheck r (K .slots c)) 0 ≡ false → judgeCall U K r c ≡ keep (bare (requestCheck r (K .slots c)))
+        eqb (requestCheck (toll U K r c)) 0 ≡ false → judgeCall U K r c ≡ keep (bare (requestCheck (toll U K r c)))
     unfolding judgeCall
-    judge-refused h = guard-not-0 (λ n. keep (bare n)) (requestCheck r (K .slots c)) (judgeIn U r (slotFor U K (r .query) c)) h
+    judge-refused h = guard-not-0 (λ n. keep (bare n)) (requestCheck (toll U K r c)) (judgeIn U r (slotFor U K (r .query) c)) h
 
-    judge-passed : {s : Slot R} → requestCheck r (K .slots c) ≡ 0 → slotFor U K (r .query) c ≡ s → judgeCall U K r c ≡ judgeIn U r s
+    judge-passed : {s : Slot R} → requestCheck (toll U K r c) ≡ 0 → slotFor U K (r .query) c ≡ s → judgeCall U K r c ≡ judgeIn U r s
     unfolding judgeCall
     judge-passed e f =
-        guard-0 (λ n. keep (bare n)) (requestCheck r (K .slots c)) (judgeIn U r (slotFor U K (r .query) c)) e
+        guard-0 (λ n. keep (bare n)) (requestCheck (toll U K r c)) (judgeIn U r (slotFor U K (r .query) c)) e
         ∙ ap (λ (s : Slot R). judgeIn U r s) f
 
-    pub judge-full : requestCheck r (K .slots c) ≡ 0 → slotFor U K (r .query) c ≡ none → judgeCall U K r c ≡ keep (bare 9)
+    pub judge-full : requestCheck (toll U K r c) ≡ 0 → slotFor U K (r .query) c ≡ none → judgeCall U K r c ≡ keep (bare 9)
     unfolding judgeIn
     judge-full e f = judge-passed e f
 
     pub judge-at :
-        {i : ℕ} {h : R} → requestCheck r (K .slots c) ≡ 0 → slotFor U K (r .query) c ≡ at i h →
-        judgeCall U K r c ≡ ruled i (U .judge (r .query .plan) (r .query .moment) h (r .cost))
+        {i : ℕ} {h : R} → requestCheck (toll U K r c) ≡ 0 → slotFor U K (r .query) c ≡ at i h →
+        judgeCall U K r c ≡ ruled i (settled (U .judge (r .query .setting) (r .query .moment) h (r .cost)))
     unfolding judgeIn
     judge-at e f = judge-passed e f
 
@@ -102,16 +110,21 @@ module _ {C R : Type 0} (K : Columns C R) (subscriber : ℕ) (c : C) where
   commit-write v i held = refl
 
 -- an ask is judged and committed; a look answers its verdict and leaves the columns
-module _ {C R : Type 0} (U : Rule R) (K : Columns C R) (c : C) where
-  pub acquire-commits : (r : Request) → acquire U K r c ≡ commit K (r .query .subscriber) c (judgeCall U K r c)
+module _ {C P R : Type 0} (U : Rule P R) (K : Columns C R) (c : C) where
+  pub acquire-commits : (r : Request P) → acquire U K r c ≡ commit K (r .query .subscriber) c (judgeCall U K r c)
   unfolding acquire
   acquire-commits r = refl
 
-  pub peek-answers : (q : Query) → peek U K q c .answer ≡ answered (q .subscriber) (peekVerdict U K q c)
+  pub peek-answers : (q : Query P) → peek U K q c .answer ≡ answered (q .subscriber) (peekVerdict U K q c)
   unfolding peek
   peek-answers q = refl
 
-  pub peek-keeps : (q : Query) → peek U K q c .after ≡ c
+  pub peek-checks :
+      (q : Query P) → peekVerdict U K q c ≡ guard bare (queryCheck (gate U K q c)) (U .report (q .setting) (q .moment) (held U K q c))
+  unfolding peekVerdict
+  peek-checks q = refl
+
+  pub peek-keeps : (q : Query P) → peek U K q c .after ≡ c
   unfolding peek
   peek-keeps q = refl
 

@@ -7,51 +7,42 @@ use Prim.Native.Nat.{ℕ, zero, suc, _≤_}
 use native.Mathlib.Omega.{arith}
 use lib.Dec.{eqb, leb, ltb}
 use borrow.Author.Tests.{le-leb, lt-leb, leb-true, eq-eqb, ne-eqb}
+use Rattle.ticks.specs.declared.plan.Plan.{Plan}
 use Rattle.ticks.specs.Grains.{planOk, onClock, InForce}
 use Rattle.ticks.proofs.Limits.{in-force}
+use Rattle.rate.proofs.Cases.{guard-0, guard-not-0}
 use Rattle.ticks.proofs.Tests.{both}
-use Rattle.table.specs.Request.{Query, Request}
-use Rattle.table.specs.Checks.{mostSlots, slotsOk, queryCheck, costCheck, requestCheck, guard}
+use Rattle.table.specs.Checks.{mostSlots, slotsOk, Gate, gateOf, Toll, queryCheck, costCheck, requestCheck}
 
--- a number that is not 0 is given by itself
-pub guard-not-0 : {A : Type 0} (refuse : ℕ → A) (n : ℕ) (rest : A) → eqb n 0 ≡ false → guard refuse n rest ≡ refuse n
-unfolding guard
-guard-not-0 refuse zero rest h = let z : _≡_ {A = ℕ} 0 1 = cc in absurd (omega arith)
-guard-not-0 refuse (suc n) rest h = refl
-
-pub guard-0 : {A : Type 0} (refuse : ℕ → A) (n : ℕ) (rest : A) → n ≡ 0 → guard refuse n rest ≡ rest
-unfolding guard
-guard-0 refuse n rest e = rw e refl
-
-module _ (q : Query) (slots : ℕ) where
-  pub number-1 : planOk (q .plan) ≡ false → queryCheck q slots ≡ 1
+module _ (g : Gate) where
+  pub number-1 : g .ok ≡ false → queryCheck g ≡ 1
   unfolding queryCheck
   number-1 plan = rw plan
 
-  pub number-2 : planOk (q .plan) ≡ true → slotsOk slots ≡ false → queryCheck q slots ≡ 2
+  pub number-2 : g .ok ≡ true → slotsOk (g .slots) ≡ false → queryCheck g ≡ 2
   unfolding queryCheck
   number-2 plan table = rw (plan, table)
 
-  pub number-3 : planOk (q .plan) ≡ true → slotsOk slots ≡ true → onClock (q .moment) ≡ false → queryCheck q slots ≡ 3
+  pub number-3 : g .ok ≡ true → slotsOk (g .slots) ≡ true → onClock (g .moment) ≡ false → queryCheck g ≡ 3
   unfolding queryCheck
   number-3 plan table moment = rw (plan, table, moment)
 
   pub number-4 :
-      planOk (q .plan) ≡ true → slotsOk slots ≡ true → onClock (q .moment) ≡ true → eqb (q .subscriber) 0 ≡ true →
-      queryCheck q slots ≡ 4
+      g .ok ≡ true → slotsOk (g .slots) ≡ true → onClock (g .moment) ≡ true → eqb (g .subscriber) 0 ≡ true →
+      queryCheck g ≡ 4
   unfolding queryCheck
   number-4 plan table moment subscriber = rw (plan, table, moment, subscriber)
 
   -- why one of checks 1 to 4 stops a call: it applies, and none before it
   pub data Stopped : ℕ → Type 0 where
-    bad-plan : planOk (q .plan) ≡ false → Stopped 1
-    bad-table : planOk (q .plan) ≡ true → slotsOk slots ≡ false → Stopped 2
-    late-moment : planOk (q .plan) ≡ true → slotsOk slots ≡ true → onClock (q .moment) ≡ false → Stopped 3
+    bad-plan : g .ok ≡ false → Stopped 1
+    bad-table : g .ok ≡ true → slotsOk (g .slots) ≡ false → Stopped 2
+    late-moment : g .ok ≡ true → slotsOk (g .slots) ≡ true → onClock (g .moment) ≡ false → Stopped 3
     no-subscriber :
-        planOk (q .plan) ≡ true → slotsOk slots ≡ true → onClock (q .moment) ≡ true → eqb (q .subscriber) 0 ≡ true →
+        g .ok ≡ true → slotsOk (g .slots) ≡ true → onClock (g .moment) ≡ true → eqb (g .subscriber) 0 ≡ true →
         Stopped 4
 
-  pub stops : {n : ℕ} → Stopped n → queryCheck q slots ≡ n
+  pub stops : {n : ℕ} → Stopped n → queryCheck g ≡ n
   stops (bad-plan a) = number-1 a
   stops (bad-table a b) = number-2 a b
   stops (late-moment a b m) = number-3 a b m
@@ -64,45 +55,46 @@ module _ (q : Query) (slots : ℕ) where
   stops-not-0 (no-subscriber a b m s) = refl
 
 -- checks 1 to 4 have passed
-pub record Asked (q : Query) (slots : ℕ) : Type 0 where
-  pub plan : planOk (q .plan) ≡ true
-  pub table : slotsOk slots ≡ true
-  pub moment : onClock (q .moment) ≡ true
-  pub subscriber : eqb (q .subscriber) 0 ≡ false
+pub record Asked (g : Gate) : Type 0 where
+  pub plan : g .ok ≡ true
+  pub table : slotsOk (g .slots) ≡ true
+  pub moment : onClock (g .moment) ≡ true
+  pub subscriber : eqb (g .subscriber) 0 ≡ false
 
 -- checks 1 to 6 have passed
-pub record Payable (r : Request) (slots : ℕ) : Type 0 where
-  pub asked : Asked (r .query) slots
-  pub cost : eqb (r .cost) 0 ≡ false
-  pub burst : ltb (r .query .plan .burst) (r .cost) ≡ false
+pub record Payable (t : Toll) : Type 0 where
+  pub asked : Asked (t .gate)
+  pub cost : eqb (t .cost) 0 ≡ false
+  pub burst : ltb (t .most) (t .cost) ≡ false
 
-module _ (q : Query) (slots : ℕ) where
-  pub asks : Asked q slots → queryCheck q slots ≡ 0
+module _ (g : Gate) where
+  pub asks : Asked g → queryCheck g ≡ 0
   unfolding queryCheck
   asks a = rw (a .plan, a .table, a .moment, a .subscriber)
 
-  pub asked-or-stopped : Asked q slots ⊎ ((n : ℕ) × Stopped q slots n)
-  asked-or-stopped = by (planOk (q .plan)) refl (slotsOk slots) refl (onClock (q .moment)) refl (eqb (q .subscriber) 0) refl
+  pub asked-or-stopped : Asked g ⊎ ((n : ℕ) × Stopped g n)
+  asked-or-stopped =
+      by (g .ok) refl (slotsOk (g .slots)) refl (onClock (g .moment)) refl (eqb (g .subscriber) 0) refl
     where
       by :
-          (p : Bool) → planOk (q .plan) ≡ p → (t : Bool) → slotsOk slots ≡ t → (m : Bool) → onClock (q .moment) ≡ m →
-          (s : Bool) → eqb (q .subscriber) 0 ≡ s → Asked q slots ⊎ ((n : ℕ) × Stopped q slots n)
+          (p : Bool) → g .ok ≡ p → (t : Bool) → slotsOk (g .slots) ≡ t → (m : Bool) → onClock (g .moment) ≡ m →
+          (s : Bool) → eqb (g .subscriber) 0 ≡ s → Asked g ⊎ ((n : ℕ) × Stopped g n)
       by true ep true et true em false es = inl (record { plan = ep; table = et; moment = em; subscriber = es })
       by false ep t et m em s es = inr (1, bad-plan ep)
       by true ep false et m em s es = inr (2, bad-table ep et)
       by true ep true et false em s es = inr (3, late-moment ep et em)
       by true ep true et true em true es = inr (4, no-subscriber ep et em es)
 
-  pub asked : queryCheck q slots ≡ 0 → Asked q slots
+  pub asked : queryCheck g ≡ 0 → Asked g
   asked e = by asked-or-stopped
     where
-      by : Asked q slots ⊎ ((n : ℕ) × Stopped q slots n) → Asked q slots
+      by : Asked g ⊎ ((n : ℕ) × Stopped g n) → Asked g
       by (inl a) = a
-      by (inr s) = absurd (false≢true (sym (stops-not-0 q slots (s .1)) ∙ eq-eqb _ _ (sym (stops q slots (s .1)) ∙ e)))
+      by (inr s) = absurd (false≢true (sym (stops-not-0 g (s .1)) ∙ eq-eqb _ _ (sym (stops g (s .1)) ∙ e)))
 
-  -- the plan and the moment are those that the rules of reckoning require
-  pub asked-in-force : Asked q slots → InForce (q .plan) (q .moment)
-  asked-in-force a = in-force (q .plan) (q .moment) (a .plan) (a .moment)
+-- a plan that has passed and the moment are those that the rules of reckoning require
+pub asked-in-force : (p : Plan) (slots moment subscriber : ℕ) → Asked (gateOf (planOk p) slots moment subscriber) → InForce p moment
+asked-in-force p slots moment subscriber a = in-force p moment (a .plan) (a .moment)
 
 -- how many slots a table that has passed has
 pub slots-least : (slots : ℕ) → slotsOk slots ≡ true → 1 ≤ slots
@@ -123,45 +115,45 @@ pub slots-beyond : (slots : ℕ) → 65536 ≤ slots → slotsOk slots ≡ false
 unfolding slotsOk
 slots-beyond slots h = rw (lt-leb slots mostSlots (omega arith)) (and-false (leb 1 slots))
 
-module _ (r : Request) (slots : ℕ) where
+module _ (t : Toll) where
   -- checks 1 to 4 answer an ask as they answer a look
-  pub query-first : eqb (queryCheck (r .query) slots) 0 ≡ false → requestCheck r slots ≡ queryCheck (r .query) slots
+  pub query-first : eqb (queryCheck (t .gate)) 0 ≡ false → requestCheck t ≡ queryCheck (t .gate)
   unfolding requestCheck
-  query-first h = guard-not-0 (λ n. n) (queryCheck (r .query) slots) (costCheck r) h
+  query-first h = guard-not-0 (λ n. n) (queryCheck (t .gate)) (costCheck t) h
 
-  cost-next : queryCheck (r .query) slots ≡ 0 → requestCheck r slots ≡ costCheck r
+  cost-next : queryCheck (t .gate) ≡ 0 → requestCheck t ≡ costCheck t
   unfolding requestCheck
-  cost-next e = guard-0 (λ n. n) (queryCheck (r .query) slots) (costCheck r) e
+  cost-next e = guard-0 (λ n. n) (queryCheck (t .gate)) (costCheck t) e
 
-  pub number-5 : queryCheck (r .query) slots ≡ 0 → eqb (r .cost) 0 ≡ true → requestCheck r slots ≡ 5
+  pub number-5 : queryCheck (t .gate) ≡ 0 → eqb (t .cost) 0 ≡ true → requestCheck t ≡ 5
   unfolding costCheck
   number-5 e cost = cost-next e ∙ rw cost
 
   pub number-6 :
-      queryCheck (r .query) slots ≡ 0 → eqb (r .cost) 0 ≡ false → ltb (r .query .plan .burst) (r .cost) ≡ true →
-      requestCheck r slots ≡ 6
+      queryCheck (t .gate) ≡ 0 → eqb (t .cost) 0 ≡ false → ltb (t .most) (t .cost) ≡ true →
+      requestCheck t ≡ 6
   unfolding costCheck
   number-6 e cost burst = cost-next e ∙ rw (cost, burst)
 
   pub passes :
-      queryCheck (r .query) slots ≡ 0 → eqb (r .cost) 0 ≡ false → ltb (r .query .plan .burst) (r .cost) ≡ false →
-      requestCheck r slots ≡ 0
+      queryCheck (t .gate) ≡ 0 → eqb (t .cost) 0 ≡ false → ltb (t .most) (t .cost) ≡ false →
+      requestCheck t ≡ 0
   unfolding costCheck
   passes e cost burst = cost-next e ∙ rw (cost, burst)
 
-  pub pays : Payable r slots → requestCheck r slots ≡ 0
-  pays p = passes (asks (r .query) slots (p .asked)) (p .cost) (p .burst)
+  pub pays : Payable t → requestCheck t ≡ 0
+  pays p = passes (asks (t .gate) (p .asked)) (p .cost) (p .burst)
 
-  pub payable : requestCheck r slots ≡ 0 → Payable r slots
-  payable e = by (queryCheck (r .query) slots) refl
+  pub payable : requestCheck t ≡ 0 → Payable t
+  payable e = by (queryCheck (t .gate)) refl
     where
       costs :
-          queryCheck (r .query) slots ≡ 0 → (z : Bool) → eqb (r .cost) 0 ≡ z → (b : Bool) →
-          ltb (r .query .plan .burst) (r .cost) ≡ b → Payable r slots
-      costs q false ez false eb = record { asked = asked (r .query) slots q; cost = ez; burst = eb }
+          queryCheck (t .gate) ≡ 0 → (z : Bool) → eqb (t .cost) 0 ≡ z → (b : Bool) →
+          ltb (t .most) (t .cost) ≡ b → Payable t
+      costs q false ez false eb = record { asked = asked (t .gate) q; cost = ez; burst = eb }
       costs q true ez b eb = absurd (omega (arith, number-5 q ez))
       costs q false ez true eb = absurd (omega (arith, number-6 q ez eb))
 
-      by : (n : ℕ) → queryCheck (r .query) slots ≡ n → Payable r slots
-      by zero q = costs q (eqb (r .cost) 0) refl (ltb (r .query .plan .burst) (r .cost)) refl
-      by (suc n) q = absurd (omega (arith, query-first (ne-eqb (queryCheck (r .query) slots) 0 (λ z. omega arith))))
+      by : (n : ℕ) → queryCheck (t .gate) ≡ n → Payable t
+      by zero q = costs q (eqb (t .cost) 0) refl (ltb (t .most) (t .cost)) refl
+      by (suc n) q = absurd (omega (arith, query-first (ne-eqb (queryCheck (t .gate)) 0 (λ z. omega arith))))

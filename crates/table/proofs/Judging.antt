@@ -2,26 +2,30 @@
 -- and every kind of columns, so each engine's proof only cites it.
 -- Assumes nothing.
 use mathlib.Core.Path.{_≡_, sym, ap, ap₂, _∙_}
-use mathlib.Core.Bool.{Bool, true, false}
+use mathlib.Core.Bool.{Bool, false}
 use Prim.Native.Nat.{ℕ}
+use native.Mathlib.Omega.{arith}
 use lib.Dec.{eqb}
+use Rattle.rate.specs.declared.answer.Outcome.{Outcome}
 use Rattle.rate.specs.declared.answer.Outcome.the-variants.{Refused}
 use Rattle.rate.specs.declared.answer.Reason.{Reason}
 use Rattle.rate.specs.declared.answer.Reason.the-variants.{TableFull}
-use Rattle.rate.specs.Answer.{answered, reasonNumber, verdictOf}
+use Rattle.rate.specs.Answer.{answered, reasonNumber, verdictOf, numbersOf}
 use Rattle.rate.specs.Decision.{Verdict, bare}
-use Rattle.rate.specs.Engine.{Judged}
-use Rattle.rate.proofs.Answers.{refused, refuses, table-full}
+use Rattle.rate.specs.Account.{Settled, kept, spent, settled}
+use Rattle.rate.proofs.Answers.{refused, refuses, table-full, numbers}
 use Rattle.table.specs.declared.check.Check.{Check}
 use Rattle.table.specs.declared.check.Check.the-variants.{Passed, Failed}
 use Rattle.table.specs.declared.search.Place.{Place}
+use Rattle.table.specs.declared.search.Place.the-variants.{Nowhere, At}
 use Rattle.table.specs.Request.{Query, Request}
-use Rattle.table.specs.Checks.{checkNumber, queryCheck, requestCheck}
+use Rattle.table.specs.Checks.{checkNumber, Gate, gateOf, Toll, tollOf, queryCheck, requestCheck}
 use Rattle.table.specs.Rule.{Rule}
 use Rattle.table.specs.Slots.{Columns, common, seek, carries, own, vacant, lowestFree}
-use Rattle.table.specs.Calls.{Step, none, at, Ruling, keep, write, ruled, slotFor, judgeCall, commit, held, peekVerdict}
-use Rattle.table.proofs.Cases.{ruled-writes, ruled-keeps, judge-refused, judge-full, judge-at, commit-keep, commit-write, peek-refused, peek-reported}
+use Rattle.table.specs.Calls.{Step, none, at, Ruling, keep, write, ruled, slotFor, judgeCall, acquire, held, peekVerdict, peek, gate, toll}
+use Rattle.table.proofs.Cases.{ruled-kept, ruled-spent, judge-refused, judge-full, judge-at, held-own, held-fresh, peek-refused, peek-reported, peek-answers}
 use Rattle.table.proofs.Checks.{Asked, asked, payable, slots-least}
+use Rattle.table.proofs.Outcomes.{acquire-keeps, acquire-writes}
 use Rattle.table.proofs.Slots.{common-equal}
 
 -- what the checks said
@@ -41,87 +45,115 @@ refusal reason e = refused reason ∙ ap (λ (x : ℕ). bare x) (sym e)
 not-0 : (reason : Reason) {n : ℕ} → n ≡ reasonNumber reason → eqb n 0 ≡ false
 not-0 reason e = ap (λ (x : ℕ). eqb x 0) e ∙ refuses reason
 
--- only an admission writes
-module _ {R : Type 0} (i : ℕ) (j : Judged R) where
-  pub rules-writes :
-      {v : Verdict} {h : R} {t : Bool} → v ≡ j .verdict → h ≡ j .after → t ≡ eqb (v .number) 0 → t ≡ true →
-      write v i h ≡ ruled i j
-  rules-writes v h says t =
-      ap₂ (λ (x : Verdict) (y : R). write x i y) v h
-      ∙ sym (ruled-writes i j (sym (ap (λ (x : Verdict). eqb (x .number) 0) v) ∙ sym says ∙ t))
+-- what the checks were asked, by what they were given
+module _ {C P R : Type 0} (U : Rule P R) (K : Columns C R) (c : C) {number : ℕ} {ok : Bool} {slots : ℕ} where
+  pub request-says :
+      (r : Request P) →
+      number ≡ requestCheck (tollOf (gateOf ok slots (r .query .moment) (r .query .subscriber)) (U .most (r .query .setting)) (r .cost)) →
+      ok ≡ U .ok (r .query .setting) → slots ≡ K .slots c → number ≡ requestCheck (toll U K r c)
+  request-says r says e f =
+      says
+      ∙ ap₂ (λ (o : Bool) (n : ℕ). requestCheck (tollOf (gateOf o n (r .query .moment) (r .query .subscriber)) (U .most (r .query .setting)) (r .cost))) e f
 
-  pub rules-keeps : {v : Verdict} {t : Bool} → v ≡ j .verdict → t ≡ eqb (v .number) 0 → t ≡ false → keep v ≡ ruled i j
-  rules-keeps v says t =
-      ap (λ (x : Verdict). keep x) v ∙ sym (ruled-keeps i j (sym (ap (λ (x : Verdict). eqb (x .number) 0) v) ∙ sym says ∙ t))
+  pub query-says :
+      (q : Query P) → number ≡ queryCheck (gateOf ok slots (q .moment) (q .subscriber)) → ok ≡ U .ok (q .setting) →
+      slots ≡ K .slots c → number ≡ queryCheck (gate U K q c)
+  query-says q says e f = says ∙ ap₂ (λ (o : Bool) (n : ℕ). queryCheck (gateOf o n (q .moment) (q .subscriber))) e f
 
-module _ {C R : Type 0} (U : Rule R) (K : Columns C R) (c : C) where
+-- an ask, in each of the cases in which it is judged
+module _ {C P R : Type 0} (U : Rule P R) (K : Columns C R) (c : C) (r : Request P) where
+  abbrev judgedOn : R → Settled R
+  judgedOn h = settled (U .judge (r .query .setting) (r .query .moment) h (r .cost))
+
   pub judges-refused :
-      (r : Request) {k : Check} {reason : Reason} → checkNumber k ≡ requestCheck r (K .slots c) → k ≡ Failed reason →
+      {k : Check} {reason : Reason} → checkNumber k ≡ requestCheck (toll U K r c) → k ≡ Failed reason →
       keep (verdictOf (Refused reason)) ≡ judgeCall U K r c
-  judges-refused r {reason = reason} says e =
+  judges-refused {reason = reason} says e =
       let told = told-failed says e in
       ap (λ (v : Verdict). keep v) (refusal reason told) ∙ sym (judge-refused U K c r (not-0 reason told))
 
-  pub judges-full :
-      (r : Request) {k : Check} → checkNumber k ≡ requestCheck r (K .slots c) → k ≡ Passed →
-      none ≡ slotFor U K (r .query) c → keep (verdictOf (Refused TableFull)) ≡ judgeCall U K r c
-  judges-full r says e f =
-      ap (λ (v : Verdict). keep v) (refusal TableFull (sym table-full)) ∙ sym (judge-full U K c r (told-passed says e) (sym f))
+  module _ {k : Check} (says : checkNumber k ≡ requestCheck (toll U K r c)) (passed : k ≡ Passed) where
+    module _ {i : ℕ} {h : R} {s : Settled R} (slot : slotFor U K (r .query) c ≡ at i h) (on : s ≡ judgedOn h) where
+      judges-at : {t : Settled R} → s ≡ t → ruled i t ≡ judgeCall U K r c
+      judges-at e = ap (λ (x : Settled R). ruled i x) (sym e ∙ on) ∙ sym (judge-at U K c r (told-passed says passed) slot)
 
-  pub judges-at :
-      (r : Request) {k : Check} {i : ℕ} {h : R} {x : Ruling R} → checkNumber k ≡ requestCheck r (K .slots c) → k ≡ Passed →
-      at i h ≡ slotFor U K (r .query) c → x ≡ ruled i (U .judge (r .query .plan) (r .query .moment) h (r .cost)) →
-      x ≡ judgeCall U K r c
-  judges-at r says e f x = x ∙ sym (judge-at U K c r (told-passed says e) (sym f))
+      pub judges-keep : {v : Verdict} → s ≡ kept v → keep v ≡ judgeCall U K r c
+      judges-keep e = sym (ruled-kept i _) ∙ judges-at e
 
+      pub judges-write : {v : Verdict} {held : R} → s ≡ spent v held → write v i held ≡ judgeCall U K r c
+      judges-write e = sym (ruled-spent i _ _) ∙ judges-at e
+
+    pub judges-full : slotFor U K (r .query) c ≡ none → keep (verdictOf (Refused TableFull)) ≡ judgeCall U K r c
+    judges-full slot =
+        ap (λ (v : Verdict). keep v) (refusal TableFull (sym table-full))
+        ∙ sym (judge-full U K c r (told-passed says passed) slot)
+
+-- a look, likewise
+module _ {C P R : Type 0} (U : Rule P R) (K : Columns C R) (c : C) (q : Query P) where
   pub peeks-refused :
-      (q : Query) {k : Check} {reason : Reason} → checkNumber k ≡ queryCheck q (K .slots c) → k ≡ Failed reason →
+      {k : Check} {reason : Reason} → checkNumber k ≡ queryCheck (gate U K q c) → k ≡ Failed reason →
       verdictOf (Refused reason) ≡ peekVerdict U K q c
-  peeks-refused q {reason = reason} says e =
+  peeks-refused {reason = reason} says e =
       let told = told-failed says e in
       refusal reason told ∙ sym (peek-refused U K c q (not-0 reason told))
 
-  pub peeks-reported :
-      (q : Query) {k : Check} {h : R} {v : Verdict} → checkNumber k ≡ queryCheck q (K .slots c) → k ≡ Passed →
-      h ≡ held U K q c → v ≡ U .report (q .plan) (q .moment) h → v ≡ peekVerdict U K q c
-  peeks-reported q says e f v =
-      v ∙ ap (λ (h : R). U .report (q .plan) (q .moment) h) f ∙ sym (peek-reported U K c q (told-passed says e))
+  module _ {k : Check} (says : checkNumber k ≡ queryCheck (gate U K q c)) (passed : k ≡ Passed) {h : R} {v : Verdict} where
+    peeks : h ≡ held U K q c → v ≡ U .report (q .setting) (q .moment) h → v ≡ peekVerdict U K q c
+    peeks e v =
+        v ∙ ap (λ (h : R). U .report (q .setting) (q .moment) h) e ∙ sym (peek-reported U K c q (told-passed says passed))
 
--- a ruling carried out
-module _ {C R : Type 0} (K : Columns C R) (subscriber : ℕ) (c : C) {x : Ruling R} where
-  pub commits-keep :
-      {v : Verdict} → x ≡ keep v →
-      (answered subscriber v ≡ commit K subscriber c x .answer) × (c ≡ commit K subscriber c x .after)
-  commits-keep {v} e =
-      let done = sym (ap (λ (x : Ruling R). commit K subscriber c x) e ∙ commit-keep K subscriber c v) in
-      (ap (λ (s : Step C). s .answer) done, ap (λ (s : Step C). s .after) done)
+    pub peeks-own :
+        {i : ℕ} → own K (q .subscriber) c ≡ At i → h ≡ K .row c i → v ≡ U .report (q .setting) (q .moment) h → v ≡ peekVerdict U K q c
+    peeks-own o e v = peeks (e ∙ sym (held-own U K c q o)) v
 
-  pub commits-write :
-      {v : Verdict} {i : ℕ} {h : R} → x ≡ write v i h →
-      (answered subscriber v ≡ commit K subscriber c x .answer)
-      × (K .put c i subscriber h ≡ commit K subscriber c x .after)
-  commits-write {v} {i} {h} e =
-      let done = sym (ap (λ (x : Ruling R). commit K subscriber c x) e ∙ commit-write K subscriber c v i h) in
-      (ap (λ (s : Step C). s .answer) done, ap (λ (s : Step C). s .after) done)
+    pub peeks-fresh :
+        own K (q .subscriber) c ≡ Nowhere → h ≡ U .fresh (q .setting) (q .moment) → v ≡ U .report (q .setting) (q .moment) h →
+        v ≡ peekVerdict U K q c
+    peeks-fresh o e v = peeks (e ∙ sym (held-fresh U K c q o)) v
+
+-- the five numbers of a look
+pub peek-told :
+    {C P R : Type 0} (U : Rule P R) (K : Columns C R) (c : C) (q : Query P) (outcome : Outcome) → verdictOf outcome ≡ peekVerdict U K q c →
+    numbersOf (record { subscriber = q .subscriber; outcome = outcome }) ≡ peek U K q c .answer
+peek-told U K c q outcome e =
+    numbers (q .subscriber) outcome ∙ ap (λ (v : Verdict). answered (q .subscriber) v) e ∙ sym (peek-answers U K c q)
+
+-- .. and of an ask, with what it leaves: a ruling that keeps, and one that writes
+module _ {C P R : Type 0} (U : Rule P R) (K : Columns C R) (c : C) (r : Request P) (outcome : Outcome) where
+  told : {after : C} →
+      acquire U K r c ≡ record { answer = answered (r .query .subscriber) (verdictOf outcome); after = after } →
+      (numbersOf (record { subscriber = r .query .subscriber; outcome = outcome }) ≡ acquire U K r c .answer) × (after ≡ acquire U K r c .after)
+  told e =
+      (numbers (r .query .subscriber) outcome ∙ sym (ap (λ (s : Step C). s .answer) e), sym (ap (λ (s : Step C). s .after) e))
+
+  pub keep-told :
+      {x : Ruling R} → x ≡ judgeCall U K r c → x ≡ keep (verdictOf outcome) →
+      (numbersOf (record { subscriber = r .query .subscriber; outcome = outcome }) ≡ acquire U K r c .answer) × (c ≡ acquire U K r c .after)
+  keep-told e f = told (acquire-keeps U K r c (sym e ∙ f))
+
+  pub write-told :
+      {x : Ruling R} {i : ℕ} {held : R} → x ≡ judgeCall U K r c → x ≡ write (verdictOf outcome) i held →
+      (numbersOf (record { subscriber = r .query .subscriber; outcome = outcome }) ≡ acquire U K r c .answer)
+      × (K .put c i (r .query .subscriber) held ≡ acquire U K r c .after)
+  write-told e f = told (acquire-writes U K r c (sym e ∙ f))
 
 -- a search over all slots
-module _ {C R : Type 0} (K : Columns C R) (c : C) (q : Query) {n : ℕ} (count : K .slots c ≡ n) {p p′ : Place} where
-  pub own-found : p ≡ seek (carries (K .ids c) (q .subscriber)) n → p ≡ p′ → own K q c ≡ p′
+module _ {C R : Type 0} (K : Columns C R) (c : C) {n : ℕ} (count : K .slots c ≡ n) {found : Place} where
+  pub own-found : (subscriber : ℕ) {p : Place} → found ≡ seek (carries (K .ids c) subscriber) n → found ≡ p → own K subscriber c ≡ p
   unfolding own
-  own-found says e = ap (λ (k : ℕ). seek (carries (K .ids c) (q .subscriber)) k) count ∙ sym says ∙ e
+  own-found subscriber says e = ap (λ (k : ℕ). seek (carries (K .ids c) subscriber) k) count ∙ sym says ∙ e
 
-  pub free-found : (U : Rule R) → p ≡ seek (vacant U K q c) n → p ≡ p′ → lowestFree U K q c ≡ p′
+  pub free-found : {P : Type 0} (U : Rule P R) (p : P) (moment : ℕ) → found ≡ seek (vacant U K p moment c) n → found ≡ lowestFree U K p moment c
   unfolding lowestFree
-  free-found U says e = ap (λ (k : ℕ). seek (vacant U K q c) k) count ∙ sym says ∙ e
+  free-found U p moment says = says ∙ sym (ap (λ (k : ℕ). seek (vacant U K p moment c) k) count)
 
 -- what the checks have shown, where they passed
-module _ (slots : ℕ) where
-  pub query-asked : (q : Query) {k : Check} → checkNumber k ≡ queryCheck q slots → k ≡ Passed → Asked q slots
-  query-asked q says e = asked q slots (told-passed says e)
+pub query-asked : (g : Gate) {k : Check} → checkNumber k ≡ queryCheck g → k ≡ Passed → Asked g
+query-asked g says e = asked g (told-passed says e)
 
-  pub request-asked : (r : Request) {k : Check} → checkNumber k ≡ requestCheck r slots → k ≡ Passed → Asked (r .query) slots
-  request-asked r says e = payable r slots (told-passed says e) .asked
+pub request-asked : (t : Toll) {k : Check} → checkNumber k ≡ requestCheck t → k ≡ Passed → Asked (t .gate)
+request-asked t says e = payable t (told-passed says e) .asked
 
 -- columns that passed are equal
-pub asked-equal : (q : Query) (a b : ℕ) → Asked q (common a b) → a ≡ b
-asked-equal q a b h = common-equal a b (slots-least (common a b) (h .table))
+pub asked-equal : (g : Gate) (a b : ℕ) → g .slots ≡ common a b → Asked g → a ≡ b
+asked-equal g a b e h = common-equal a b (omega (arith, e, slots-least (g .slots) (h .table)))

@@ -3,17 +3,13 @@
 use mathlib.Core.Path.{_≡_, refl, sym, _∙_}
 use mathlib.Core.Bool.{Bool, true, false, cond, _||_}
 use mathlib.Core.List.{List}
-use Prim.Native.Nat.{ℕ, _+_, _≤_, _<_}
+use Prim.Native.Nat.{ℕ, _≤_}
 use native.Mathlib.Omega.{arith}
-use lib.Dec.{eqb}
+use lib.Dec.{eqb, leb}
 use lib.ListN.{getD}
 use borrow.Author.Tests.{eq-eqb, ne-eqb, eqb-true, eqb-false}
-use Rattle.rate.specs.Engine.{Engine}
-use Rattle.ticks.proofs.Tests.{neither}
-use Rattle.table.specs.Request.{Query}
-use Rattle.table.specs.Rule.{ruleOf}
-use Rattle.table.specs.Slots.{Columns, common, carries, vacant, NoneFrom}
-use Rattle.table.proofs.Seek.{from-next}
+use Rattle.table.specs.Rule.{Rule}
+use Rattle.table.specs.Slots.{Columns, common, carries, atMost, vacant, NoneFrom}
 
 pub common-same : (a b : ℕ) → a ≡ b → common a b ≡ a
 unfolding common
@@ -36,28 +32,34 @@ pub not-carried : (ids : List ℕ) (subscriber i : ℕ) → carries ids subscrib
 unfolding carries
 not-carried ids subscriber i e = eqb-false _ _ e
 
+pub carries-own : (ids : List ℕ) (subscriber i : ℕ) → getD ids i 0 ≡ subscriber → carries ids subscriber i ≡ true
+unfolding carries
+carries-own ids subscriber i e = eq-eqb _ _ e
+
 pub carries-other : (ids : List ℕ) (subscriber i : ℕ) → (getD ids i 0 ≡ subscriber → ⊥) → carries ids subscriber i ≡ false
 unfolding carries
 carries-other ids subscriber i n = ne-eqb _ _ n
 
--- whether a slot of an engine's table is free, as the code finds it on the record that it read
-pub vacant-told :
-    {C R : Type 0} (E : Engine R) (K : Columns C R) (q : Query) (c : C) (i : ℕ) {held : R} {found told : Bool} → held ≡ K .row c i →
-    found ≡ (eqb (getD (K .ids c) i 0) 0 || E .free (q .plan) (q .moment) held) → found ≡ told → vacant (ruleOf E) K q c i ≡ told
-unfolding vacant carries
-vacant-told E K q c i read says told = rw (← read) (sym says ∙ told)
+-- whether a slot is free: it is empty, or its record, as it was read, owes nothing
+module _ {C P R : Type 0} (U : Rule P R) (K : Columns C R) (p : P) (at : ℕ) (c : C) where
+  pub vacant-empty : (i : ℕ) → getD (K .ids c) i 0 ≡ 0 → vacant U K p at c i ≡ true
+  unfolding vacant carries
+  vacant-empty i e = rw (eq-eqb (getD (K .ids c) i 0) 0 e)
 
--- what is known of a block of slots, of which those before i have been tested, if none may be free
-abbrev pub Taken : {C R : Type 0} → Engine R → Columns C R → Query → C → ℕ → ℕ → ℕ → Type 0
-Taken E K q c from to i = NoneFrom (carries (K .ids c) 0) from to × NoneFrom (vacant (ruleOf E) K q c) from i
+  pub vacant-held :
+      (i : ℕ) {held : R} {found told : Bool} → (getD (K .ids c) i 0 ≡ 0 → ⊥) → held ≡ K .row c i → found ≡ U .free p at held →
+      found ≡ told → vacant U K p at c i ≡ told
+  unfolding vacant carries
+  vacant-held i some read says told = rw (ne-eqb (getD (K .ids c) i 0) 0 some, ← read) (sym says ∙ told)
 
--- .. and after one more of them
-pub taken-next :
-    {C R : Type 0} (E : Engine R) (K : Columns C R) (q : Query) (c : C) (from to i : ℕ) {held : R} {may here : Bool} → from ≤ i → i < to →
-    held ≡ K .row c i → (may ≡ false → Taken E K q c from to i) → (here ≡ false → E .free (q .plan) (q .moment) held ≡ false) →
-    (may || here) ≡ false → Taken E K q c from to (i + 1)
-unfolding vacant
-taken-next E K q c from to i above below read before owes e =
-    let n = neither _ _ e in
-    let t = before (n .0) in
-    (t .0, from-next _ from i (t .1) (rw (t .0 i above below, ← read) (owes (n .1))))
+  -- no slot of a block is free if none is empty and no record owes nothing
+  pub none-vacant :
+      (from to : ℕ) → NoneFrom (carries (K .ids c) 0) from to → NoneFrom (λ j. U .free p at (K .row c j)) from to →
+      NoneFrom (vacant U K p at c) from to
+  unfolding vacant
+  none-vacant from to held owing j above below = rw (held j above below) (owing j above below)
+
+-- what the test of a column's number is
+pub at-most-test : (column : List ℕ) (most i : ℕ) → atMost column most i ≡ leb (getD column i 0) most
+unfolding atMost
+at-most-test column most i = refl

@@ -19,7 +19,7 @@ use Rattle.table.proofs.Outcomes.{acquire-keeps, acquire-writes}
 use Rattle.table.proofs.Placing.{Taken, taken-within, Effect, effect}
 use Rattle.table.proofs.Stored.{Stored}
 
-module _ {C R : Type 0} (U : Rule R) (K : Columns C R) (r : Request) (c : C) where
+module _ {C P R : Type 0} (U : Rule P R) (K : Columns C R) (r : Request P) (c : C) where
   -- what an admission has written
   pub record Admission : Type 0 where
     pub place : ℕ

@@ -1,12 +1,12 @@
 -- Document 01, 'When the gate says no', checks 1 to 6: the number of the first check that applies, or 0.
-use Prim.Native.Nat.{ℕ, zero, suc}
+use Prim.Native.Nat.{ℕ}
 use mathlib.Core.Bool.{Bool, cond, not, _&&_}
 use lib.Dec.{eqb, leb, ltb}
-use Rattle.ticks.specs.Grains.{planOk, onClock}
+use Rattle.ticks.specs.Grains.{onClock}
 use Rattle.rate.specs.Answer.{reasonNumber}
+use Rattle.rate.specs.Account.{guard}
 use Rattle.table.specs.declared.check.Check.{Check}
 use Rattle.table.specs.declared.check.Check.the-variants.{Passed, Failed}
-use Rattle.table.specs.Request.{Query, Request}
 
 -- the table of limits: the most slots (document 01's seats); the least is 1
 abbrev pub mostSlots : ℕ
@@ -16,26 +16,40 @@ mostSlots = 65535
 unfoldable pub slotsOk : ℕ → Bool
 slotsOk slots = leb 1 slots && leb slots mostSlots
 
--- checks 1 to 4, all that a look knows before its own record
-unfoldable pub queryCheck : Query → ℕ → ℕ
-queryCheck q slots =
-    cond (not (planOk (q .plan))) 1
-    (cond (not (slotsOk slots)) 2
-    (cond (not (onClock (q .moment))) 3
-    (cond (eqb (q .subscriber) 0) 4 0)))
+-- what checks 1 to 4 look at: whether the setting is within its limits, and three numbers
+pub record Gate : Type 0 where
+  pub ok : Bool
+  pub slots : ℕ
+  pub moment : ℕ
+  pub subscriber : ℕ
 
--- a number that is not 0 answers by itself; after 0 the rest decides
-unfoldable pub guard : {A : Type 0} → (ℕ → A) → ℕ → A → A
-guard refuse zero rest = rest
-guard refuse (suc n) rest = refuse (suc n)
+abbrev pub gateOf : Bool → ℕ → ℕ → ℕ → Gate
+gateOf ok slots moment subscriber = record { ok = ok; slots = slots; moment = moment; subscriber = subscriber }
+
+-- what checks 1 to 6 look at: that, the most that a cost may be, and the cost
+pub record Toll : Type 0 where
+  pub gate : Gate
+  pub most : ℕ
+  pub cost : ℕ
+
+abbrev pub tollOf : Gate → ℕ → ℕ → Toll
+tollOf gate most cost = record { gate = gate; most = most; cost = cost }
+
+-- checks 1 to 4, all that a look knows before its own record
+unfoldable pub queryCheck : Gate → ℕ
+queryCheck g =
+    cond (not (g .ok)) 1
+    (cond (not (slotsOk (g .slots))) 2
+    (cond (not (onClock (g .moment))) 3
+    (cond (eqb (g .subscriber) 0) 4 0)))
 
 -- checks 5 and 6
-unfoldable pub costCheck : Request → ℕ
-costCheck r = cond (eqb (r .cost) 0) 5 (cond (ltb (r .query .plan .burst) (r .cost)) 6 0)
+unfoldable pub costCheck : Toll → ℕ
+costCheck t = cond (eqb (t .cost) 0) 5 (cond (ltb (t .most) (t .cost)) 6 0)
 
 -- checks 1 to 6
-unfoldable pub requestCheck : Request → ℕ → ℕ
-requestCheck r slots = guard (λ n. n) (queryCheck (r .query) slots) (costCheck r)
+unfoldable pub requestCheck : Toll → ℕ
+requestCheck t = guard (λ n. n) (queryCheck (t .gate)) (costCheck t)
 
 -- the number of what the checks answer
 unfoldable pub checkNumber : Check → ℕ

@@ -1,21 +1,32 @@
--- What the table needs of an engine, and no more.
+-- What the table needs of a rule, and no more.
 use Prim.Native.Nat.{ℕ}
 use mathlib.Core.Bool.{Bool}
-use Rattle.ticks.specs.declared.plan.Plan.{Plan}
 use Rattle.rate.specs.Decision.{Verdict}
-use Rattle.rate.specs.Engine.{Engine, Judged, judge, report}
+use Rattle.rate.specs.Account.{Account, Judged, judge, report}
 
--- R is what is stored for one subscriber; each is of a plan and a moment
-pub record Rule (R : Type 0) : Type 0 where
+-- P is the setting, R is what is stored for one subscriber; each is of a setting and a moment
+pub record Rule (P R : Type 0) : Type 0 where
+  -- the setting is within its limits (check 1)
+  pub ok : P → Bool
+  -- the most that a cost may be (check 6)
+  pub most : P → ℕ
   -- the record of a subscriber without one
-  pub fresh : Plan → ℕ → R
+  pub fresh : P → ℕ → R
   -- the record owes nothing
-  pub free : Plan → ℕ → R → Bool
+  pub free : P → ℕ → R → Bool
   -- an ask of a cost: the verdict, and the record afterwards
-  pub judge : Plan → ℕ → R → ℕ → Judged R
+  pub judge : P → ℕ → R → ℕ → Judged R
   -- a look
-  pub report : Plan → ℕ → R → Verdict
+  pub report : P → ℕ → R → Verdict
 
--- the rule of an engine
-abbrev pub ruleOf : {R : Type 0} → Engine R → Rule R
-ruleOf E = record { fresh = E .fresh; free = E .free; judge = judge E; report = report E }
+-- the rule of an account
+abbrev pub ruleOf : {P R : Type 0} → Account P R → Rule P R
+ruleOf A =
+    record {
+      ok = A .ok;
+      most = λ p. A .plan p .burst;
+      fresh = A .fresh;
+      free = A .free;
+      judge = judge A;
+      report = report A;
+    }

@@ -3,11 +3,10 @@ use mathlib.Core.Path.{_≡_}
 use Prim.Native.Nat.{ℕ, zero, suc, _≤_, _<_}
 use mathlib.Core.Bool.{Bool, false, cond, _||_}
 use mathlib.Core.List.{List}
-use lib.Dec.{eqb}
+use lib.Dec.{eqb, leb}
 use lib.ListN.{getD}
 use Rattle.table.specs.declared.search.Place.{Place}
 use Rattle.table.specs.declared.search.Place.the-variants.{Nowhere, At}
-use Rattle.table.specs.Request.{Query}
 use Rattle.table.specs.Rule.{Rule}
 
 -- the length that two columns have in common; 0, which no table has, if they are unequal
@@ -48,15 +47,19 @@ NoneBelow test end = (j : ℕ) → j < end → test j ≡ false
 unfoldable pub carries : List ℕ → ℕ → ℕ → Bool
 carries ids subscriber i = eqb (getD ids i 0) subscriber
 
--- a subscriber's slot is the lowest that carries its number
-unfoldable pub own : {C R : Type 0} → Columns C R → Query → C → Place
-own K q c = seek (carries (K .ids c) (q .subscriber)) (K .slots c)
+-- the number at a place of a column is at most so many
+unfoldable pub atMost : List ℕ → ℕ → ℕ → Bool
+atMost column most i = leb (getD column i 0) most
 
-module _ {C R : Type 0} (U : Rule R) (K : Columns C R) where
+-- a subscriber's slot is the lowest that carries its number
+unfoldable pub own : {C R : Type 0} → Columns C R → ℕ → C → Place
+own K subscriber c = seek (carries (K .ids c) subscriber) (K .slots c)
+
+module _ {C P R : Type 0} (U : Rule P R) (K : Columns C R) where
   -- a slot is free if it is empty or owes nothing
-  unfoldable pub vacant : Query → C → ℕ → Bool
-  vacant q c i = carries (K .ids c) 0 i || U .free (q .plan) (q .moment) (K .row c i)
+  unfoldable pub vacant : P → ℕ → C → ℕ → Bool
+  vacant p at c i = carries (K .ids c) 0 i || U .free p at (K .row c i)
 
   -- a subscriber without a slot gets the lowest free one
-  unfoldable pub lowestFree : Query → C → Place
-  lowestFree q c = seek (vacant q c) (K .slots c)
+  unfoldable pub lowestFree : P → ℕ → C → Place
+  lowestFree p at c = seek (vacant p at c) (K .slots c)

@@ -13,10 +13,10 @@ use Rattle.table.specs.Calls.{acquire, clear}
 unfoldable pub plan : Plan
 plan = record { limit = 3; period = 1000; burst = 2 }
 
-unfoldable pub ask : ℕ → ℕ → ℕ → Request
+unfoldable pub ask : ℕ → ℕ → ℕ → Request Plan
 ask = requestOf plan
 
-unfoldable pub asks : List Request
+unfoldable pub asks : List (Request Plan)
 asks =
     ask 1000 7 1
     ∷ ask 1000 7 1
@@ -57,9 +57,9 @@ burstAnswer = line 0 7 0 1667 0
 unfoldable pub nobodyAnswer : Numbers
 nobodyAnswer = line 4 0 0 0 0
 
-module _ {C R : Type 0} (U : Rule R) (K : Columns C R) where
+module _ {C R : Type 0} (U : Rule Plan R) (K : Columns C R) where
   -- the answers to a list of asks, each on the columns as the one before left them
-  unfoldable pub played : C → List Request → List Numbers
+  unfoldable pub played : C → List (Request Plan) → List Numbers
   played c [] = []
   played c (r ∷ rest) = acquire U K r c .answer ∷ played (acquire U K r c .after) rest
 

@@ -1,9 +1,7 @@
 // Checks 1 to 6 (document 01, 'When the gate says no'), in their order: the first that applies answers.
 ghost use mathlib.Core.Path.{_≡_};
-ghost use Rattle.table.specs.Request.{queryOf, requestOf};
-ghost use Rattle.table.specs.Checks.{slotsOk, queryCheck, requestCheck, checkNumber};
+ghost use Rattle.table.specs.Checks.{slotsOk, gateOf, tollOf, queryCheck, requestCheck, checkNumber};
 use rate::answer::Reason;
-use ticks::plan::Plan;
 use ticks::units::Millis;
 
 // The most slots of a table; the least is 1.
@@ -24,11 +22,12 @@ pub fn is_slot_count(slots: usize) -> bool
     slots <= MOST_SLOTS
 }
 
-// Checks 1 to 4, for a peek. Unequal columns count as 0 slots.
-pub fn query(plan: Plan, slots: usize, moment: Millis, subscriber: u32) -> Check
-    ensures { λ r. ⌜ checkNumber r ≡ queryCheck (queryOf plan (moment .0) subscriber) slots ⌝ }
+// Checks 1 to 4, for a peek. `ok` says whether what is lent beside the columns is within its limits; unequal columns count as
+// 0 slots.
+pub fn query(ok: bool, slots: usize, moment: Millis, subscriber: u32) -> Check
+    ensures { λ r. ⌜ checkNumber r ≡ queryCheck (gateOf ok slots (moment .0) subscriber) ⌝ }
 {
-    if !plan.is_ok() {
+    if !ok {
         return Check::Failed(Reason::BadPlan);
     }
     if !is_slot_count(slots) {
@@ -43,17 +42,24 @@ pub fn query(plan: Plan, slots: usize, moment: Millis, subscriber: u32) -> Check
     Check::Passed
 }
 
-// Checks 1 to 6, for an acquire.
-pub fn request(plan: Plan, slots: usize, moment: Millis, subscriber: u32, cost: u32) -> Check
-    ensures { λ r. ⌜ checkNumber r ≡ requestCheck (requestOf plan (moment .0) subscriber cost) slots ⌝ }
+// Checks 1 to 6, for an acquire, of which `most` is the most that a cost may be.
+pub fn request(
+    ok: bool,
+    slots: usize,
+    moment: Millis,
+    subscriber: u32,
+    most: u32,
+    cost: u32,
+) -> Check
+    ensures { λ r. ⌜ checkNumber r ≡ requestCheck (tollOf (gateOf ok slots (moment .0) subscriber) most cost) ⌝ }
 {
-    if let Check::Failed(reason) = query(plan, slots, moment, subscriber) {
+    if let Check::Failed(reason) = query(ok, slots, moment, subscriber) {
         return Check::Failed(reason);
     }
     if cost == 0 {
         return Check::Failed(Reason::ZeroCost);
     }
-    if plan.burst < cost {
+    if most < cost {
         return Check::Failed(Reason::CostAboveBurst);
     }
     Check::Passed

@@ -7,8 +7,8 @@ const ARCHIVE: &str = "librailcadence_c.a";
 
 fn fail(words: &str) -> ! {
     eprintln!(
-        "{words}\nRun 'rt staticlib railcadence_c' at the root of the repository, and set RAILCADENCE_LIB \
-         to the absolute path of its folder target/staticlib, where {ARCHIVE} then is."
+        "{words}\nRun './archive' at the root of the repository, and set RAILCADENCE_LIB \
+         to the absolute path of its folder build, where {ARCHIVE} then is."
     );
     process::exit(1)
 }

@@ -1,4 +1,4 @@
-//! The runs that crates/history/must-fail names: each shows where a wrong variant of demand 3 would be false. Here they are
+//! The runs that crates/law_history/must-fail names: each shows where a wrong variant of demand 3 would be false. Here they are
 //! played by both engines and the book as they are.
 
 use model::book::Book;

@@ -9,35 +9,17 @@ use Rattle.http.proofs.Cases.{bad-plan, admitted, throttled, refused}
 use Rattle.http.proofs.header_fields.Statement.{statement}
 use Rattle.http.proofs.header_fields.Tie as tie
 
-is-ok-requires : tie.Need-is-ok-requires
-is-ok-requires c κs = search needs
-
-silent-requires : tie.Need-silent-requires
-silent-requires c κs = search needs
-
 returns : tie.Need-returns
 returns c = c .silent .ensures ∙ sym (bad-plan _ _ _ (sym (c .before .before .is-ok .ensures) ∙ not-true _ (c .before .if1 .taken)))
 
-reported-requires : tie.Need-reported-requires
-reported-requires c κs = search needs
-
 returns-2 : tie.Need-returns-2
 returns-2 c = c .reported .ensures ∙ sym (admitted _ _ _ (sym (c .before .before .before .before .is-ok .ensures) ∙ not-false _ (c .before .before .before .if1 .left)) (eq-eqb _ _ (c .before .if2 .taken)))
-
-seconds-requires : tie.Need-seconds-requires
-seconds-requires c κs = search needs
-
-reported-requires-2 : tie.Need-reported-requires-2
-reported-requires-2 c κs = search needs
 
 returns-3 : tie.Need-returns-3
 returns-3 c =
     let asked = c .before .before .before .before .before .before .before .before .args in
     c .reported2 .ensures ∙ ap (λ (n : ℕ). reported (asked .plan) (asked .moment .0) (asked .answer) n) (c .before .seconds .ensures)
     ∙ sym (throttled _ _ _ (sym (c .before .before .before .before .before .before .before .is-ok .ensures) ∙ not-false _ (c .before .before .before .before .before .before .if1 .left)) (ne-eqb _ _ (c .before .before .before .before .if2 .left)) (eq-eqb _ _ (c .before .before .if3 .taken)))
-
-planned-requires : tie.Need-planned-requires
-planned-requires c κs = search needs
 
 returns-4 : tie.Need-returns-4
 returns-4 c =
@@ -47,13 +29,13 @@ pub header-fields-spec : {M : Type 1} → statement M
 header-fields-spec =
     tie.close
     (tie.spec
-    is-ok-requires
-    silent-requires
+    (λ c κs. search needs)
+    (λ c κs. search needs)
     returns
-    reported-requires
+    (λ c κs. search needs)
     returns-2
-    seconds-requires
-    reported-requires-2
+    (λ c κs. search needs)
+    (λ c κs. search needs)
     returns-3
-    planned-requires
+    (λ c κs. search needs)
     returns-4)

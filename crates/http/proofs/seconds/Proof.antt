@@ -5,12 +5,9 @@ use Rattle.http.specs.Fields.{seconds}
 use Rattle.http.proofs.seconds.Statement.{statement}
 use Rattle.http.proofs.seconds.Tie as tie
 
-div-up-requires : tie.Need-div-up-requires
-div-up-requires c κs = search needs
-
 returns : tie.Need-returns
 unfolding seconds
 returns c = c .div-up .ensures
 
 pub seconds-spec : {M : Type 1} → statement M
-seconds-spec = tie.close (tie.spec div-up-requires returns)
+seconds-spec = tie.close (tie.spec (λ c κs. search needs) returns)

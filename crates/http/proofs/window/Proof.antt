@@ -8,15 +8,6 @@ use Rattle.http.specs.Fields.{seconds, windowOf}
 use Rattle.http.proofs.window.Statement.{statement}
 use Rattle.http.proofs.window.Tie as tie
 
-capacity-requires : tie.Need-capacity-requires
-capacity-requires c κs = search needs
-
-millis-to-drain-requires : tie.Need-millis-to-drain-requires
-millis-to-drain-requires c κs = search needs
-
-seconds-requires : tie.Need-seconds-requires
-seconds-requires c κs = search needs
-
 returns : tie.Need-returns
 unfolding windowOf
 returns c =
@@ -25,4 +16,4 @@ returns c =
 
 pub window-spec : {M : Type 1} → statement M
 window-spec =
-    tie.close (tie.spec capacity-requires millis-to-drain-requires seconds-requires returns)
+    tie.close (tie.spec (λ c κs. search needs) (λ c κs. search needs) (λ c κs. search needs) returns)

@@ -8,9 +8,9 @@ use lib.ListN.{length, take, length-take}
 use lib.Seq.{length-take-le}
 use denote.Ref.{now}
 use borrow.Author.Needs.{needs}
-use Rattle.transcript.specs.Running.{stateOf}
-use Rattle.session.specs.Stream.{State, said}
-use Rattle.protocol.specs.Reply.{mostReply}
+use Rattle.text_transcript.specs.Running.{stateOf}
+use Rattle.text_session.specs.Stream.{State, said}
+use Rattle.text_protocol.specs.Reply.{mostReply}
 use Rattle.railcadence.specs.Serving.{Onwards}
 use Rattle.railcadence.proofs.Suffices.{answers-fit}
 use Rattle.railcadence.proofs.Counting.{written}
@@ -46,18 +46,6 @@ write-requires c κs =
     answers-fit (before start) _ (fed .feed .ensures .at-is) (omega (arith, fits start)) in
     omega (arith, out .out .given)
 
-same-length : tie.Need-same-length
-same-length c = search needs
-
-same-length-2 : tie.Need-same-length-2
-same-length-2 c = search needs
-
-same-length-3 : tie.Need-same-length-3
-same-length-3 c = search needs
-
-same-length-4 : tie.Need-same-length-4
-same-length-4 c = search needs
-
 returns : tie.Need-returns
 unfolding Onwards
 returns c =
@@ -72,18 +60,6 @@ returns c =
       ready = moved .ready;
     }
 
-same-length-5 : tie.Need-same-length-5
-same-length-5 c = search needs
-
-same-length-6 : tie.Need-same-length-6
-same-length-6 c = search needs
-
-same-length-7 : tie.Need-same-length-7
-same-length-7 c = search needs
-
-same-length-8 : tie.Need-same-length-8
-same-length-8 c = search needs
-
 returns-2 : tie.Need-returns-2
 unfolding Onwards
 returns-2 c = tt
@@ -95,13 +71,13 @@ answer-spec =
     slice-aggregate-feed
     feed-requires
     write-requires
-    same-length
-    same-length-2
-    same-length-3
-    same-length-4
+    (λ c. search needs)
+    (λ c. search needs)
+    (λ c. search needs)
+    (λ c. search needs)
     returns
-    same-length-5
-    same-length-6
-    same-length-7
-    same-length-8
+    (λ c. search needs)
+    (λ c. search needs)
+    (λ c. search needs)
+    (λ c. search needs)
     returns-2)

@@ -3,19 +3,10 @@
 use native.Mathlib.Omega.{arith}
 use denote.Ref.{now}
 use borrow.Author.Needs.{needs}
-use Rattle.protocol.specs.Reply.{header}
+use Rattle.text_protocol.specs.Reply.{header}
 use Rattle.railcadence.proofs.Counting.{written}
 use Rattle.railcadence.proofs.serve.begin.Statement.{statement}
 use Rattle.railcadence.proofs.serve.begin.Tie as tie
-
-put-header-requires : tie.Need-put-header-requires
-put-header-requires c κs = search needs
-
-write-requires : tie.Need-write-requires
-write-requires c κs = search needs
-
-same-length : tie.Need-same-length
-same-length c = search needs
 
 returns : tie.Need-returns
 returns c =
@@ -27,4 +18,4 @@ returns c =
     (c .write .ensures e)
 
 pub begin-spec : {M : Type 1} → statement M
-begin-spec = tie.close (tie.spec put-header-requires write-requires same-length returns)
+begin-spec = tie.close (tie.spec (λ c κs. search needs) (λ c κs. search needs) (λ c. search needs) returns)

@@ -6,7 +6,7 @@ use native.Mathlib.Omega.{arith}
 use lib.ListN.{length}
 use denote.Ref.{now}
 use borrow.Author.Needs.{needs}
-use Rattle.transcript.specs.Running.{endingOf}
+use Rattle.text_transcript.specs.Running.{endingOf}
 use Rattle.railcadence.specs.Serving.{Finished}
 use Rattle.railcadence.proofs.Suffices.{end-fits}
 use Rattle.railcadence.proofs.Counting.{written}
@@ -29,9 +29,6 @@ write-requires c κs =
     let finished = c .before .before .before .before in
     omega (arith, c .before .before .before .out .given, finished .finish .ensures .0, fits (finished .before .before .before .before))
 
-same-length : tie.Need-same-length
-same-length c = search needs
-
 returns : tie.Need-returns
 unfolding Finished
 returns c =
@@ -40,12 +37,9 @@ returns c =
     let put = finished .finish .ensures in
     written (text start) (now (start .args .out)) (fits start) (put .0) (put .1) (c .before .write .ensures (c .if1 .taken))
 
-same-length-2 : tie.Need-same-length-2
-same-length-2 c = search needs
-
 returns-2 : tie.Need-returns-2
 unfolding Finished
 returns-2 c = tt
 
 pub close-spec : {M : Type 1} → statement M
-close-spec = tie.close (tie.spec finish-requires write-requires same-length returns same-length-2 returns-2)
+close-spec = tie.close (tie.spec finish-requires write-requires (λ c. search needs) returns (λ c. search needs) returns-2)

@@ -7,8 +7,8 @@ use native.Mathlib.Omega.{arith}
 use lib.ListN.{length}
 use lib.Seq.{length-take-le}
 use borrow.Author.Needs.{needs}
-use Rattle.transcript.specs.Running.{Ready, stateOf}
-use Rattle.transcript.proofs.Entire.{ready-start}
+use Rattle.text_transcript.specs.Running.{Ready, stateOf}
+use Rattle.text_transcript.proofs.Entire.{ready-start}
 use Rattle.railcadence.specs.Serving.{Counted, Finished, accountOf}
 use Rattle.railcadence.proofs.Suffices.{Same, same-start, same-lent}
 use Rattle.railcadence.proofs.Counting.{counted-as, counted-none}
@@ -42,20 +42,11 @@ answered c = c .before .before .before .before .before .before .before .before .
 turn-left : (c : tie.After-answer Inv-loop μ-loop) → 1 ≤ head (answered c) .loop .turns
 turn-left c = omega (arith, answered c .before .before .before .before .if1 .left)
 
-start-requires : tie.Need-start-requires Inv-loop μ-loop
-start-requires c κs = search needs
-
 loop-holds : tie.Need-loop-holds Inv-loop μ-loop
 loop-holds c =
     let started = c .start .ensures in
     let line-enough = c .before .before .before .before .before .before .pre .0 in
     (ready-start _ _ started line-enough, (same-start _ _ _ _ _, reached-start _ _ (omega arith) started))
-
-read-requires : tie.Need-read-requires Inv-loop μ-loop
-read-requires c κs = search needs
-
-enum-known-n : tie.Need-enum-known-n Inv-loop μ-loop
-enum-known-n c = search needs
 
 answer-requires : tie.Need-answer-requires Inv-loop μ-loop
 answer-requires c κs =
@@ -78,23 +69,11 @@ answer-requires c κs =
       ),
     )
 
-enum-known-next : tie.Need-enum-known-next Inv-loop μ-loop
-enum-known-next c = search needs
-
-enum-told : tie.Need-enum-told Inv-loop μ-loop
-enum-told c = search needs
-
-enum-told-2 : tie.Need-enum-told-2 Inv-loop μ-loop
-enum-told-2 c = search needs
-
 close-requires : tie.Need-close-requires Inv-loop μ-loop
 close-requires c κs =
     let loop = c .before .before .before .before .before .before .before .before .before .before .before in
     let pre = loop .before .before .before .before .before .before .before .pre in
     (loop .loop .inv .0, omega (arith, loop .loop .inv .1 .0 .of-out, pre .1 .1 .one-line))
-
-enum-told-3 : tie.Need-enum-told-3 Inv-loop μ-loop
-enum-told-3 c = search needs
 
 sub-turns : tie.Need-sub-turns Inv-loop μ-loop
 sub-turns c = turn-left (c .before .before .before .before .before .before .before .before .before .before .before)
@@ -246,16 +225,16 @@ pieces-spec =
     (tie.spec
     Inv-loop
     μ-loop
-    start-requires
+    (λ c κs. search needs)
     loop-holds
-    read-requires
-    enum-known-n
+    (λ c κs. search needs)
+    (λ c. search needs)
     answer-requires
-    enum-known-next
-    enum-told
-    enum-told-2
+    (λ c. search needs)
+    (λ c. search needs)
+    (λ c. search needs)
     close-requires
-    enum-told-3
+    (λ c. search needs)
     sub-turns
     loop-less
     loop-again

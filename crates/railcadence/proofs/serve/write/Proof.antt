@@ -13,22 +13,10 @@ use Rattle.railcadence.proofs.serve.write.Tie as tie
 slice-aggregate-bytes : tie.Need-slice-aggregate-bytes
 slice-aggregate-bytes c = sym (length-take-le _ (now (c .before .before .args .out)) (omega (arith, c .before .before .pre)))
 
-write-all-requires : tie.Need-write-all-requires
-write-all-requires c κs = search needs
-
-wrapping-add-u64-requires : tie.Need-wrapping-add-u64-requires
-wrapping-add-u64-requires c κs = search needs
-
 returns : tie.Need-returns
 returns c =
     let start = c .before .before .before .before .before .before in
     λ e. counted-as (length-take-le (start .args .count) (now (start .args .out)) (start .pre)) (wrapped _ _ (c .wrapping-add-u64 .ensures))
-
-slice-aggregate-write-all : tie.Need-slice-aggregate-write-all
-slice-aggregate-write-all c = search needs
-
-write-all-requires-2 : tie.Need-write-all-requires-2
-write-all-requires-2 c κs = search needs
 
 returns-2 : tie.Need-returns-2
 returns-2 c = λ e. absurd (false≢true e)
@@ -38,9 +26,9 @@ write-spec =
     tie.close
     (tie.spec
     slice-aggregate-bytes
-    write-all-requires
-    wrapping-add-u64-requires
+    (λ c κs. search needs)
+    (λ c κs. search needs)
     returns
-    slice-aggregate-write-all
-    write-all-requires-2
+    (λ c. search needs)
+    (λ c κs. search needs)
     returns-2)

@@ -16,21 +16,12 @@ mul-low c = record { fits = product-fits _ _ (omega arith) (search needs) }
 returns : tie.Need-returns
 returns c = let a = c .before .args in omega (arith, product-split (a .span) (a .limit))
 
-mul-top : tie.Need-mul-top
-mul-top c = search needs
-
-sub-if2 : tie.Need-sub-if2
-sub-if2 c = search needs
-
 returns-2 : tie.Need-returns-2
 returns-2 c = let a = c .before .before .args in omega (arith, product-split (a .span) (a .limit))
-
-add-result : tie.Need-add-result
-add-result c = search needs
 
 returns-3 : tie.Need-returns-3
 returns-3 c = let a = c .before .before .args in omega (arith, product-split (a .span) (a .limit))
 
 pub product-spec : {M : Type 1} → statement M
 product-spec =
-    tie.close (tie.spec mul-high mul-low returns mul-top sub-if2 returns-2 add-result returns-3)
+    tie.close (tie.spec mul-high mul-low returns (λ c. search needs) (λ c. search needs) returns-2 (λ c. search needs) returns-3)

@@ -20,12 +20,6 @@ returns-2 c =
     let args = c .before .before .args in
     sym (ap (λ (a : ℕ). divUp a (args .d)) (c .if2 .taken) ∙ divUp-zero (args .d))
 
-sub-result : tie.Need-sub-result
-sub-result c = search needs
-
-div-result : tie.Need-div-result
-div-result c = search needs
-
 add-result : tie.Need-add-result
 add-result c =
     let args = c .before .before .args in
@@ -37,4 +31,4 @@ returns-3 c =
     sym (divUp-positive (args .a) (args .d) (search needs) (search needs))
 
 pub div-up-spec : {M : Type 1} → statement M
-div-up-spec = tie.close (tie.spec returns returns-2 sub-result div-result add-result returns-3)
+div-up-spec = tie.close (tie.spec returns returns-2 (λ c. search needs) (λ c. search needs) add-result returns-3)

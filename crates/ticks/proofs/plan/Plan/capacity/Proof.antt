@@ -5,12 +5,9 @@ use Rattle.ticks.specs.Grains.{price, capacity}
 use Rattle.ticks.proofs.plan.Plan.capacity.Statement.{statement}
 use Rattle.ticks.proofs.plan.Plan.capacity.Tie as tie
 
-price-requires : tie.Need-price-requires
-price-requires c κs = search needs
-
 returns : tie.Need-returns
 unfolding capacity price
 returns c = c .price .ensures
 
 pub capacity-spec : {M : Type 1} → statement M
-capacity-spec = tie.close (tie.spec price-requires returns)
+capacity-spec = tie.close (tie.spec (λ c κs. search needs) returns)

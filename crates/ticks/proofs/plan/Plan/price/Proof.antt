@@ -7,9 +7,6 @@ use Rattle.ticks.proofs.Products.{product-fits}
 use Rattle.ticks.proofs.plan.Plan.price.Statement.{statement}
 use Rattle.ticks.proofs.plan.Plan.price.Tie as tie
 
-cast-t3 : tie.Need-cast-t3
-cast-t3 c = search needs
-
 mul-t5 : tie.Need-mul-t5
 mul-t5 c = record { fits = product-fits _ _ (search needs) (search needs) }
 
@@ -18,4 +15,4 @@ unfolding price
 returns c = refl
 
 pub price-spec : {M : Type 1} → statement M
-price-spec = tie.close (tie.spec cast-t3 mul-t5 returns)
+price-spec = tie.close (tie.spec (λ c. search needs) mul-t5 returns)

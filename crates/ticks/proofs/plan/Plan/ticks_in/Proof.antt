@@ -7,22 +7,13 @@ use Rattle.ticks.proofs.Products.{short-fits}
 use Rattle.ticks.proofs.plan.Plan.ticks_in.Statement.{statement}
 use Rattle.ticks.proofs.plan.Plan.ticks_in.Tie as tie
 
-product-requires : tie.Need-product-requires
-product-requires c κs = search needs
-
 returns : tie.Need-returns
 unfolding ticksIn
 returns c = c .product .ensures
 
-product-requires-2 : tie.Need-product-requires-2
-product-requires-2 c κs = search needs
-
 returns-2 : tie.Need-returns-2
 unfolding ticksIn
 returns-2 c = c .product2 .ensures
-
-cast-t6 : tie.Need-cast-t6
-cast-t6 c = search needs
 
 mul-t7 : tie.Need-mul-t7
 mul-t7 c = record { fits = short-fits _ _ (omega arith) (omega arith) }
@@ -34,4 +25,4 @@ returns-3 c = let a = c .before .before .before .before .before .before .args in
 pub ticks-in-spec : {M : Type 1} → statement M
 ticks-in-spec =
     tie.close
-    (tie.spec product-requires returns product-requires-2 returns-2 cast-t6 mul-t7 returns-3)
+    (tie.spec (λ c κs. search needs) returns (λ c κs. search needs) returns-2 (λ c. search needs) mul-t7 returns-3)

@@ -7,20 +7,11 @@ use Rattle.ticks.proofs.Products.{product-fits, product-split}
 use Rattle.ticks.proofs.plan.Plan.wrapping_ticks_in.Statement.{statement}
 use Rattle.ticks.proofs.plan.Plan.wrapping_ticks_in.Tie as tie
 
-cast-factor : tie.Need-cast-factor
-cast-factor c = search needs
-
 mul-high : tie.Need-mul-high
 mul-high c = record { fits = product-fits _ _ (omega arith) (search needs) }
 
 mul-low : tie.Need-mul-low
 mul-low c = record { fits = product-fits _ _ (omega arith) (search needs) }
-
-mul-wrapping-add-u64 : tie.Need-mul-wrapping-add-u64
-mul-wrapping-add-u64 c = search needs
-
-wrapping-add-u64-requires : tie.Need-wrapping-add-u64-requires
-wrapping-add-u64-requires c κs = search needs
 
 returns : tie.Need-returns
 unfolding ticksIn
@@ -31,4 +22,4 @@ returns c = λ small.
 pub wrapping-ticks-in-spec : {M : Type 1} → statement M
 wrapping-ticks-in-spec =
     tie.close
-    (tie.spec cast-factor mul-high mul-low mul-wrapping-add-u64 wrapping-add-u64-requires returns)
+    (tie.spec (λ c. search needs) mul-high mul-low (λ c. search needs) (λ c κs. search needs) returns)

@@ -6,11 +6,8 @@ use native.Mathlib.Omega.{arith}
 use Rattle.ticks.proofs.units.Ticks.may_be_at_most.Statement.{statement}
 use Rattle.ticks.proofs.units.Ticks.may_be_at_most.Tie as tie
 
-wrapping-sub-u64-requires : tie.Need-wrapping-sub-u64-requires
-wrapping-sub-u64-requires c κs = search needs
-
 returns : tie.Need-returns
 returns c = λ small e. omega (arith, ltb-false)
 
 pub may-be-at-most-spec : {M : Type 1} → statement M
-may-be-at-most-spec = tie.close (tie.spec wrapping-sub-u64-requires returns)
+may-be-at-most-spec = tie.close (tie.spec (λ c κs. search needs) returns)

@@ -1,0 +1,2 @@
+-- What a reader must believe of the numbers that a host receives.
+pub mod Five

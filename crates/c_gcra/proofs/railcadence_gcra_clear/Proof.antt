@@ -1,0 +1,16 @@
+-- `c_gcra::railcadence_gcra_clear` meets its contract: the numbers of the answer, and the columns as the call left them.
+-- Assumes nothing.
+use borrow.Author.Needs.{needs}
+use mathlib.Core.Path.{ap, _∙_}
+use Rattle.rate.specs.declared.answer.Numbers.{Numbers}
+use Rattle.c_answer.specs.Five.{five}
+use Rattle.c_gcra.proofs.railcadence_gcra_clear.Statement.{statement}
+use Rattle.c_gcra.proofs.railcadence_gcra_clear.Tie as tie
+
+returns : tie.Need-returns
+returns c = (c .five .ensures ∙ ap (λ (n : Numbers). five n) (c .before .to-numbers .ensures ∙ c .before .before .before .before .before .before .clear .ensures .0), c .before .before .before .before .before .before .clear .ensures .1)
+
+pub railcadence-gcra-clear-spec : {M : Type 1} → statement M
+railcadence-gcra-clear-spec =
+    tie.close
+    (tie.spec (λ c κs. search needs) (λ c κs. search needs) (λ c κs. search needs) (λ c. search needs) (λ c. search needs) returns)

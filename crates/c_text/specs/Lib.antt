@@ -1,0 +1,2 @@
+-- What a reader must believe of the text's export.
+pub mod Text

@@ -1,0 +1,34 @@
+// A whole tabbed text for C (document 01, 'The tabbed text'). Any values may be passed.
+ghost use mathlib.Core.Path.{_≡_};
+ghost use Rattle.text_transcript.specs.Whole.{transcribed, lentOf};
+ghost use Rattle.c_text.specs.Text.{two};
+use text_transcript::whole;
+use text_transcript::whole::Transcribed;
+
+// The result and how many bytes were written.
+fn two(transcribed: Transcribed) -> [u64; 2]
+    ensures { λ r. ⌜ r ≡ two transcribed ⌝ }
+{
+    match transcribed {
+        Transcribed::Written(bytes) => [0, bytes as u64],
+        Transcribed::ShortTable => [1, 0],
+        Transcribed::ShortOutput => [2, 0],
+    }
+}
+
+#[no_mangle]
+pub extern "C" fn railcadence_transcribe(
+    text: &[u8],
+    ids: &mut [u32],
+    tats: &mut [u64],
+    out: &mut [u8],
+    result: &mut [u64; 2],
+)
+    ensures { λ _. ⌜ now (result .exit) ≡ two
+        (transcribed (now (text .entry)) (now (ids .entry)) (now (tats .entry)) (now (out .entry)) .answer) ⌝ }
+    ensures { λ _. ⌜ lentOf (now (ids .exit)) (now (tats .exit)) (now (out .exit))
+        ≡ transcribed (now (text .entry)) (now (ids .entry)) (now (tats .entry)) (now (out .entry)) .left ⌝ }
+{
+    let transcribed = whole::transcribe(text, ids, tats, out);
+    *result = two(transcribed);
+}

@@ -1,0 +1,62 @@
+-- Exactly when a peek gets each of its numbers, for any rule: its check applies and none before it; or the own record, or a fresh
+-- one, reports it.
+-- Assumes nothing.
+use mathlib.Core.Path.{_≡_, refl, sym, ap, subst, _∙_}
+use mathlib.Core.Logic.{_⊎_, inl, inr}
+use Prim.Native.Nat.{ℕ}
+use lib.Dec.{eqb}
+use Rattle.rate.specs.declared.answer.Numbers.{Numbers}
+use Rattle.rate.specs.Answer.{answered}
+use Rattle.rate.specs.Decision.{Verdict, bare}
+use Rattle.rate.proofs.Answers.{answered-number, bare-number}
+use Rattle.table.specs.declared.search.Place.{Place}
+use Rattle.table.specs.declared.search.Place.the-variants.{Nowhere, At}
+use Rattle.table.specs.Request.{Query}
+use Rattle.table.specs.Checks.{queryCheck}
+use Rattle.table.specs.Rule.{Rule}
+use Rattle.table.specs.Slots.{Columns, seek, carries}
+use Rattle.table.specs.Calls.{peek, gate}
+use Rattle.table.proofs.Cases.{peek-refused, peek-answers}
+use Rattle.table.proofs.Checks.{Asked, Stopped, stops, stops-not-0, asked-or-stopped}
+use Rattle.law_calls.proofs.Peek.{peek-own, peek-fresh}
+use Rattle.table.proofs.Placing.{Own, Unknown}
+use Rattle.table.proofs.Seek.{Sought, sought}
+
+-- why a look gets its number, for any rule
+module _ {C P R : Type 0} (U : Rule P R) (K : Columns C R) (q : Query P) (c : C) where
+  pub data PeekCause : ℕ → Type 0 where
+    stopped : {n : ℕ} → Stopped (gate U K q c) n → PeekCause n
+    on-own :
+        {n : ℕ} → Asked (gate U K q c) → (i : ℕ) → Own K q c i → U .report (q .setting) (q .moment) (K .row c i) .number ≡ n → PeekCause n
+    on-fresh :
+        {n : ℕ} → Asked (gate U K q c) → Unknown K q c →
+        U .report (q .setting) (q .moment) (U .fresh (q .setting) (q .moment)) .number ≡ n → PeekCause n
+
+  numbered : (v : Verdict) {n : ℕ} → peek U K q c .answer ≡ answered (q .subscriber) v → v .number ≡ n → peek U K q c .answer .number ≡ n
+  numbered v e n = ap (λ (x : Numbers). x .number) e ∙ answered-number (q .subscriber) v ∙ n
+
+  pub peek-causes : {n : ℕ} → PeekCause n → peek U K q c .answer .number ≡ n
+  peek-causes (stopped s) =
+      let number = stops (gate U K q c) s in
+      let refusal = peek-refused U K c q (ap (λ (n : ℕ). eqb n 0) number ∙ stops-not-0 (gate U K q c) s) in
+      numbered (bare (queryCheck (gate U K q c))) (peek-answers U K c q ∙ ap (λ (v : Verdict). answered (q .subscriber) v) refusal)
+      (bare-number (queryCheck (gate U K q c)) ∙ number)
+  peek-causes (on-own a i o e) = numbered _ (peek-own U K q c i a o) e
+  peek-causes (on-fresh a u e) = numbered _ (peek-fresh U K q c a u) e
+
+  -- there is always a cause
+  in-place :
+      Asked (gate U K q c) → (p : Place) → Sought (carries (K .ids c) (q .subscriber)) (K .slots c) p → (n : ℕ) × PeekCause n
+  in-place a Nowhere u = (_, on-fresh a u refl)
+  in-place a (At i) o = (_, on-own a i o refl)
+
+  a-cause : (n : ℕ) × PeekCause n
+  a-cause = by (asked-or-stopped (gate U K q c))
+    where
+      by : Asked (gate U K q c) ⊎ ((n : ℕ) × Stopped (gate U K q c) n) → (n : ℕ) × PeekCause n
+      by (inl a) =
+          in-place a (seek (carries (K .ids c) (q .subscriber)) (K .slots c)) (sought (carries (K .ids c) (q .subscriber)) (K .slots c))
+      by (inr s) = (s .0, stopped (s .1))
+
+  pub peek-caused : {n : ℕ} → peek U K q c .answer .number ≡ n → PeekCause n
+  peek-caused e = let g = a-cause in subst (λ (k : ℕ). PeekCause k) (sym (peek-causes (g .1)) ∙ e) (g .1)

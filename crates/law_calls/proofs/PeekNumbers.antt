@@ -1,0 +1,82 @@
+-- Exactly when a peek gets each of its numbers, for any account; and a clear, over any columns.
+-- Assumes nothing.
+use mathlib.Core.Path.{_≡_, sym, ap, subst, _∙_}
+use mathlib.Core.Bool.{true, false}
+use Prim.Native.Nat.{ℕ}
+use lib.Dec.{eqb}
+use Rattle.rate.specs.Decision.{Verdict, bare}
+use Rattle.rate.specs.Account.{Account, report}
+use Rattle.rate.proofs.Answers.{answered-number, bare-number, reported-number}
+use Rattle.rate.proofs.Balanced.{Balanced, Fault, fine, corrupt}
+use Rattle.rate.proofs.Cases.{report-faulty, report-sound}
+use Rattle.table.specs.Request.{Query}
+use Rattle.table.specs.Checks.{slotsOk}
+use Rattle.table.specs.Rule.{ruleOf}
+use Rattle.table.specs.Slots.{Columns}
+use Rattle.table.specs.Calls.{Step, peek, clear, gate}
+use Rattle.table.proofs.Cases.{clear-done, clear-unfit}
+use Rattle.table.proofs.Checks.{Asked, Stopped}
+use Rattle.law_calls.proofs.Cleared.{cleared-table}
+use Rattle.law_calls.proofs.PeekCauses as rule
+use Rattle.law_calls.proofs.PeekCauses.{PeekCause, peek-causes, peek-caused}
+use Rattle.table.proofs.Placing.{Own, Unknown}
+
+-- why a look gets its number
+module _ {C P R : Type 0} (A : Account P R) (K : Columns C R) (q : Query P) (c : C) where
+  pub data PeekGround : ℕ → Type 0 where
+    stopped : {n : ℕ} → Stopped (gate (ruleOf A) K q c) n → PeekGround n
+    corrupt-record :
+        Asked (gate (ruleOf A) K q c) → (i : ℕ) → Own K q c i → A .fault (q .setting) (q .moment) (K .row c i) ≡ 7 → PeekGround 7
+    known :
+        Asked (gate (ruleOf A) K q c) → (i : ℕ) → Own K q c i → A .fault (q .setting) (q .moment) (K .row c i) ≡ 0 → PeekGround 0
+    unknown : Asked (gate (ruleOf A) K q c) → Unknown K q c → PeekGround 0
+
+  gets-7 :
+      (h : R) → A .fault (q .setting) (q .moment) h ≡ 7 → report A (q .setting) (q .moment) h .number ≡ 7
+  gets-7 h s =
+      ap (λ (v : Verdict). v .number) (report-faulty A (q .setting) (q .moment) h (ap (λ (n : ℕ). eqb n 0) s)) ∙ bare-number _ ∙ s
+
+  gets-0 : (h : R) → A .fault (q .setting) (q .moment) h ≡ 0 → report A (q .setting) (q .moment) h .number ≡ 0
+  gets-0 h s = ap (λ (v : Verdict). v .number) (report-sound A (q .setting) (q .moment) h s) ∙ reported-number _ _ _
+
+  module _ (L : Balanced A) where
+    fresh-gets-0 :
+        Asked (gate (ruleOf A) K q c) → report A (q .setting) (q .moment) (A .fresh (q .setting) (q .moment)) .number ≡ 0
+    fresh-gets-0 a = gets-0 (A .fresh (q .setting) (q .moment)) (L .fresh-sound (q .setting) (q .moment) (a .plan))
+
+    cause : {n : ℕ} → PeekGround n → PeekCause (ruleOf A) K q c n
+    cause (stopped s) = rule.stopped s
+    cause (corrupt-record a i o s) = rule.on-own a i o (gets-7 (K .row c i) s)
+    cause (known a i o s) = rule.on-own a i o (gets-0 (K .row c i) s)
+    cause (unknown a u) = rule.on-fresh a u (fresh-gets-0 a)
+
+    on-record :
+        {n : ℕ} → Asked (gate (ruleOf A) K q c) → (i : ℕ) → Own K q c i → report A (q .setting) (q .moment) (K .row c i) .number ≡ n →
+        PeekGround n
+    on-record {n} a i o e = by (L .faults (q .setting) (q .moment) (K .row c i))
+      where
+        by : Fault (A .fault (q .setting) (q .moment) (K .row c i)) → PeekGround n
+        by (corrupt s) = subst (λ (k : ℕ). PeekGround k) (sym (gets-7 (K .row c i) s) ∙ e) (corrupt-record a i o s)
+        by (fine s) = subst (λ (k : ℕ). PeekGround k) (sym (gets-0 (K .row c i) s) ∙ e) (known a i o s)
+
+    ground : {n : ℕ} → PeekCause (ruleOf A) K q c n → PeekGround n
+    ground (rule.stopped s) = stopped s
+    ground (rule.on-own a i o e) = on-record a i o e
+    ground (rule.on-fresh a u e) = subst (λ (k : ℕ). PeekGround k) (sym (fresh-gets-0 a) ∙ e) (unknown a u)
+
+    pub peek-decides : {n : ℕ} → PeekGround n → peek (ruleOf A) K q c .answer .number ≡ n
+    peek-decides g = peek-causes (ruleOf A) K q c (cause g)
+
+    pub peek-grounds : {n : ℕ} → peek (ruleOf A) K q c .answer .number ≡ n → PeekGround n
+    peek-grounds e = ground (peek-caused (ruleOf A) K q c e)
+
+-- a clear gets 0 exactly if the columns are a table, and otherwise 2
+module _ {C R : Type 0} (K : Columns C R) (c : C) where
+  pub clear-0 :
+      (clear K c .answer .number ≡ 0 → slotsOk (K .slots c) ≡ true)
+      × (slotsOk (K .slots c) ≡ true → clear K c .answer .number ≡ 0)
+  clear-0 =
+      (cleared-table K c, λ t. ap (λ (s : Step C). s .answer .number) (clear-done K c t) ∙ answered-number 0 (bare 0) ∙ bare-number 0)
+
+  pub clear-2 : slotsOk (K .slots c) ≡ false → clear K c .answer .number ≡ 2
+  clear-2 t = ap (λ (s : Step C). s .answer .number) (clear-unfit K c t) ∙ answered-number 0 (bare 2) ∙ bare-number 2

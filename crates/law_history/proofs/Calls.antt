@@ -1,0 +1,19 @@
+-- The laws of the calls (law_calls, proofs/Laws) hold of both engines.
+-- Assumes nothing.
+use Rattle.rate.specs.Account.{alone}
+use Rattle.rate.proofs.Alone.{alone-balanced}
+use Rattle.rule_gcra.specs.Gcra.{gcra}
+use Rattle.rule_gcra.proofs.Laws.{gcra-lawful}
+use Rattle.rule_token_bucket.specs.TokenBucket.{tokenBucket}
+use Rattle.rule_token_bucket.proofs.Laws.{token-bucket-lawful}
+use Rattle.table_gcra.specs.Table as gcra-table
+use Rattle.table_gcra.proofs.Columns.{gcra-stored}
+use Rattle.table_token_bucket.specs.Table as token-bucket-table
+use Rattle.table_token_bucket.proofs.Columns.{token-bucket-stored}
+use Rattle.law_calls.proofs.Laws.{CallLaws, call-laws}
+
+pub gcra-laws : CallLaws (alone gcra) gcra-table.columns
+gcra-laws = call-laws (alone-balanced gcra-lawful) gcra-stored
+
+pub token-bucket-laws : CallLaws (alone tokenBucket) token-bucket-table.columns
+token-bucket-laws = call-laws (alone-balanced token-bucket-lawful) token-bucket-stored

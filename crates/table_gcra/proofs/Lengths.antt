@@ -1,0 +1,68 @@
+-- How long the columns are: equal ones have as many slots, a clear makes zeros of all of them, and an acquire leaves both
+-- columns as long as they were.
+-- Assumes nothing.
+use mathlib.Core.Path.{_≡_, refl, sym, ap, ap₂, subst, _∙_}
+use mathlib.Core.Bool.{Bool, true, false}
+use mathlib.Core.List.{List}
+use Prim.Native.Nat.{ℕ}
+use lib.Dec.{eqb}
+use lib.ListN.{length, replicate, length-set}
+use borrow.Author.Tests.{eqb-true}
+use Rattle.ticks.specs.declared.plan.Plan.{Plan}
+use Rattle.ticks.specs.declared.units.Ticks.{Ticks}
+use Rattle.rate.specs.Answer.{answered}
+use Rattle.rate.specs.Decision.{bare}
+use Rattle.table.specs.Request.{Request}
+use Rattle.table.specs.Checks.{slotsOk}
+use Rattle.table.proofs.Cases.{clear-done, clear-unfit}
+use Rattle.table.proofs.Slots.{common-same}
+use Rattle.table.proofs.Writes.{denied-changes-nothing, admission-writes-one}
+use Rattle.table_gcra.specs.Table.{Table, tableOf, columns, rule, acquire, clear}
+
+pub all-slots : (ids tats : List ℕ) → length ids ≡ length tats → columns .slots (tableOf ids tats) ≡ length ids
+unfolding columns
+all-slots ids tats equal = common-same (length ids) (length tats) equal
+
+-- a clear of so many slots
+module _ (ids tats : List ℕ) {slots : ℕ} (i : length ids ≡ slots) (j : length tats ≡ slots) where
+  slots-are : columns .slots (tableOf ids tats) ≡ slots
+  slots-are = all-slots ids tats (i ∙ sym j) ∙ i
+
+  zeros-are : columns .zeros (tableOf ids tats) ≡ tableOf (replicate slots 0) (replicate slots 0)
+  unfolding columns
+  zeros-are = ap₂ (λ (n m : ℕ). tableOf (replicate n 0) (replicate m 0)) i j
+
+  pub clear-zeros :
+      slotsOk slots ≡ true →
+      clear (tableOf ids tats)
+      ≡ record { answer = answered 0 (bare 0); after = tableOf (replicate slots 0) (replicate slots 0) }
+  clear-zeros e =
+      clear-done columns (tableOf ids tats) (ap slotsOk slots-are ∙ e)
+      ∙ ap (λ (t : Table). record { answer = answered 0 (bare 0); after = t }) zeros-are
+
+  pub clear-refuses :
+      slotsOk slots ≡ false → clear (tableOf ids tats) ≡ record { answer = answered 0 (bare 2); after = tableOf ids tats }
+  clear-refuses e = clear-unfit columns (tableOf ids tats) (ap slotsOk slots-are ∙ e)
+
+-- two tables with columns of the same lengths
+pub record SameLengths (t u : Table) : Type 0 where
+  pub ids : length (t .ids) ≡ length (u .ids)
+  pub tats : length (t .tats) ≡ length (u .tats)
+
+pub same-lengths : (t : Table) → SameLengths t t
+same-lengths t = record { ids = refl; tats = refl }
+
+put-lengths : (t : Table) (i subscriber : ℕ) (tat : Ticks) → SameLengths (columns .put t i subscriber tat) t
+unfolding columns
+put-lengths t i subscriber tat =
+    record { ids = length-set (t .ids) i subscriber; tats = length-set (t .tats) i (tat .0) }
+
+pub acquire-lengths : (r : Request Plan) (t : Table) → SameLengths (acquire r t .after) t
+acquire-lengths r t = by (eqb (acquire r t .answer .number) 0) refl
+  where
+    by : (b : Bool) → eqb (acquire r t .answer .number) 0 ≡ b → SameLengths (acquire r t .after) t
+    by true e =
+        let a = admission-writes-one rule columns r t (eqb-true _ _ e) in
+        subst (λ (u : Table). SameLengths u t) (sym (a .after)) (put-lengths t (a .place) (r .query .subscriber) (a .held))
+    by false e =
+        subst (λ (u : Table). SameLengths u t) (sym (denied-changes-nothing rule columns r t e)) (same-lengths t)

@@ -1,0 +1,20 @@
+-- Document 01's examples, all of them: the definitions give its answers, whatever the cleared slot held before.
+-- It names definitions of other crates on its `unfolding` line, as a worked example may.
+-- Assumes nothing.
+use mathlib.Core.Path.{_≡_, refl}
+use mathlib.Core.List.{[], _∷_}
+use Prim.Native.Nat.{ℕ}
+use Rattle.rate.specs.Answer.{answered}
+use Rattle.rate.specs.Decision.{remaining, resetAt, retryAfter, bare, reported, admitted, throttled}
+use Rattle.rate.specs.Account.{soundness, guard, judge, settled}
+use Rattle.rule_gcra.specs.Gcra.{gcra, fresh, sound, free, later, backlog, admits, spend}
+use Rattle.ticks.specs.Grains.{ticksIn, price, capacity, divUp, oneTo, planOk, onClock}
+use Rattle.table.specs.Checks.{slotsOk, queryCheck, costCheck, requestCheck}
+use Rattle.table.specs.Slots.{common, seekFrom, seek, carries, own, vacant, lowestFree}
+use Rattle.table.specs.Calls.{ruled, newcomer, judgeIn, commit, slotFrom, slotFor, judgeCall, acquire, clear}
+use Rattle.table.specs.Worked.{plan, ask, asks, line, answers, burstAnswer, nobodyAnswer, played, examples, expected}
+use Rattle.table_gcra.specs.Table.{tableOf, columns, rule}
+
+pub worked : (id tat : ℕ) → examples rule columns (tableOf (id ∷ []) (tat ∷ [])) ≡ expected
+unfolding answered remaining resetAt retryAfter bare reported admitted throttled soundness guard judge settled gcra fresh sound free later backlog admits spend ticksIn price capacity divUp oneTo planOk onClock slotsOk queryCheck costCheck requestCheck common seekFrom seek carries own vacant lowestFree ruled newcomer judgeIn commit slotFrom slotFor judgeCall acquire clear plan ask asks line answers burstAnswer nobodyAnswer played examples expected columns
+worked id tat = refl

@@ -1,0 +1,61 @@
+// An acquire judged on columns that it only reads: what is answered, and what is to be written.
+ghost use mathlib.Core.Path.{_≡_};
+ghost use Rattle.table.specs.Request.{requestOf};
+ghost use Rattle.table.specs.Calls.{judgeCall};
+ghost use Rattle.table_gcra.specs.Table.{tableOf, columns, rule, rulingOf};
+use crate::slot;
+use crate::slot::Slot;
+use rate::answer::Outcome;
+use rate::answer::Reason;
+use rule_gcra::Judgement;
+use table::check;
+use table::check::Check;
+use table::columns;
+use ticks::plan::Plan;
+use ticks::units::Millis;
+use ticks::units::Ticks;
+
+pub enum Ruling {
+    Keep(Outcome),
+    Write {
+        outcome: Outcome,
+        place: usize,
+        tat: Ticks,
+    },
+}
+
+// Checks 1 to 6; then the record in its slot, of which there may be none. Only an admission writes.
+pub fn judge(
+    plan: Plan,
+    ids: &[u32],
+    tats: &[u64],
+    moment: Millis,
+    subscriber: u32,
+    cost: u32,
+) -> Ruling
+    ensures { λ r. ⌜ rulingOf r ≡ judgeCall rule columns (requestOf plan (moment .0) subscriber cost)
+        (tableOf (now (ids .entry)) (now (tats .entry))) ⌝ }
+{
+    let slots = columns::common(ids.len(), tats.len());
+    if let Check::Failed(reason) = check::request(
+        plan.is_ok(),
+        slots,
+        moment,
+        subscriber,
+        plan.burst,
+        cost,
+    ) {
+        return Ruling::Keep(Outcome::Refused(reason));
+    }
+    let Slot::At { place, tat } = slot::slot_for(plan, ids, tats, moment, subscriber) else {
+        return Ruling::Keep(Outcome::Refused(Reason::TableFull));
+    };
+    match rule_gcra::judge(plan, moment, tat, cost) {
+        Judgement::Keep(outcome) => Ruling::Keep(outcome),
+        Judgement::Spend { outcome, tat } => Ruling::Write {
+            outcome,
+            place,
+            tat,
+        },
+    }
+}

@@ -1,0 +1,3 @@
+-- The laws of the token bucket engine's table.
+pub mod Columns
+pub mod Worked

@@ -1,0 +1,153 @@
+// How far a run of the text program has come, and what a line is told (document 01, 'The tabbed text'). Nothing is written here
+// but the columns.
+ghost use mathlib.Core.Path.{_≡_};
+ghost use mathlib.Core.Bool.{_&&_};
+ghost use Prim.Native.Nat.{_≤_};
+ghost use lib.Dec.{leb};
+ghost use lib.ListN.{length};
+ghost use Rattle.table_gcra.specs.Table.{tableOf};
+ghost use Rattle.text_session.specs.Session.{opening, textSlots, first, other, answer, unended, Lent, Bounded, toldOf};
+use rate::answer;
+use rate::answer::Numbers;
+use rate::answer::Reason;
+use text_protocol::command::Command;
+use text_protocol::reply;
+use text_protocol::reply::UNREADABLE;
+use ticks::plan::Plan;
+use ticks::units::Millis;
+
+// The most slots in the program.
+pub const TEXT_SLOTS: usize = 1024;
+
+// Before the first line; after a good one; after a bad one, which ends the run.
+pub enum Stage {
+    First,
+    Open { plan: Plan, slots: usize },
+    Over,
+}
+
+// What the first line comes to: a number, which ends the run, or a plan and its slots.
+pub enum Opening {
+    Refused(u64),
+    Opened { plan: Plan, slots: usize },
+}
+
+// What a line gets: no answer, or five numbers.
+pub enum Reply {
+    Nothing,
+    Numbers(Numbers),
+}
+
+// What a line leads to, and what it gets.
+pub struct Turn {
+    pub stage: Stage,
+    pub reply: Reply,
+}
+
+// Whether a plan may have so many slots here.
+fn is_text_slots(slots: usize) -> bool
+    ensures { λ r. ⌜ r ≡ (leb 1 slots && leb slots textSlots) ⌝ }
+{
+    if slots < 1 {
+        return false;
+    }
+    slots <= TEXT_SLOTS
+}
+
+// What the first line comes to.
+fn open(command: Command) -> Opening
+    ensures { λ r. ⌜ r ≡ opening command ⌝ }
+{
+    let Command::Plan { slots, plan } = command else {
+        return Opening::Refused(UNREADABLE);
+    };
+    if !plan.is_ok() {
+        return Opening::Refused(answer::reason_number(Reason::BadPlan));
+    }
+    let slots = slots as usize;
+    if !is_text_slots(slots) {
+        return Opening::Refused(answer::reason_number(Reason::BadTable));
+    }
+    Opening::Opened { plan, slots }
+}
+
+// The first line.
+fn first(command: Command, ids: &mut [u32], tats: &mut [u64]) -> Turn
+    requires { ⌜ Lent (now ids) (now tats) ⌝ }
+    ensures { λ r. ⌜ toldOf r (now (ids .exit)) (now (tats .exit))
+        ≡ first (opening command) (tableOf (now (ids .entry)) (now (tats .entry))) ⌝ }
+{
+    match open(command) {
+        Opening::Refused(number) => Turn {
+            stage: Stage::Over,
+            reply: Reply::Numbers(reply::refusal(number)),
+        },
+        Opening::Opened { plan, slots } => {
+            table_gcra::clear(&mut ids[..slots], &mut tats[..slots]);
+            Turn {
+                stage: Stage::Open { plan, slots },
+                reply: Reply::Nothing,
+            }
+        }
+    }
+}
+
+// Any other line of an open run.
+fn other(plan: Plan, slots: usize, command: Command, ids: &mut [u32], tats: &mut [u64]) -> Turn
+    requires { ⌜ (slots ≤ length (now ids)) × (slots ≤ length (now tats)) ⌝ }
+    ensures { λ r. ⌜ toldOf r (now (ids .exit)) (now (tats .exit))
+        ≡ other plan slots command (tableOf (now (ids .entry)) (now (tats .entry))) ⌝ }
+{
+    let Command::Ask {
+        moment,
+        subscriber,
+        cost,
+    } = command
+    else {
+        return Turn {
+            stage: Stage::Open { plan, slots },
+            reply: Reply::Numbers(reply::refusal(UNREADABLE)),
+        };
+    };
+    let moment = Millis(moment);
+    let told = table_gcra::acquire(
+        plan,
+        &mut ids[..slots],
+        &mut tats[..slots],
+        moment,
+        subscriber,
+        cost,
+    );
+    Turn {
+        stage: Stage::Open { plan, slots },
+        reply: Reply::Numbers(told.to_numbers()),
+    }
+}
+
+// A line answered.
+pub fn answer(stage: Stage, command: Command, ids: &mut [u32], tats: &mut [u64]) -> Turn
+    requires { ⌜ Lent (now ids) (now tats) ⌝ }
+    requires { ⌜ Bounded stage ⌝ }
+    ensures { λ r. ⌜ toldOf r (now (ids .exit)) (now (tats .exit))
+        ≡ answer stage command (tableOf (now (ids .entry)) (now (tats .entry))) ⌝ }
+{
+    match stage {
+        Stage::First => first(command, ids, tats),
+        Stage::Open { plan, slots } => other(plan, slots, command, ids, tats),
+        Stage::Over => Turn {
+            stage: Stage::Over,
+            reply: Reply::Nothing,
+        },
+    }
+}
+
+// What a last line without LF gets.
+pub fn unended(stage: Stage) -> Reply
+    ensures { λ r. ⌜ r ≡ unended stage ⌝ }
+{
+    match stage {
+        Stage::First => Reply::Numbers(reply::refusal(UNREADABLE)),
+        Stage::Open { plan: _, slots: _ } => Reply::Numbers(reply::refusal(UNREADABLE)),
+        Stage::Over => Reply::Nothing,
+    }
+}

@@ -1,0 +1,81 @@
+-- `text_transcript::whole::run` meets its contract: the header, the lines that end, and one that does not.
+-- Assumes nothing.
+use native.Mathlib.Omega.{arith}
+use mathlib.Core.List.{[]}
+use lib.ListN.{replicate}
+use denote.Ref.{now}
+use Rattle.text_session.specs.Stream.{said}
+use Rattle.text_transcript.specs.Running.{stateOf, endingOf}
+use Rattle.text_protocol.proofs.Putting.{put-then}
+use Rattle.text_transcript.proofs.Entire.{ready-start, header-fits, body-fits, end-fits, header-put, put-as, text-is, table-after}
+use borrow.Author.Needs.{needs}
+use Rattle.text_transcript.proofs.whole.run.Statement.{statement}
+use Rattle.text_transcript.proofs.whole.run.Tie as tie
+
+put-header-requires : tie.Need-put-header-requires
+put-header-requires c κs =
+    let p5 = c .before .before .before .before .before in
+    header-fits (now (p5 .args .text)) (now (p5 .args .out)) (p5 .pre .1)
+
+feed-requires : tie.Need-feed-requires
+feed-requires c κs =
+    let p4 = c .before .before .before .before in
+    let p7 = p4 .before .before .before in
+    let p13 = p7 .before .before .before .before .before .before in
+    let S = p13 .args in
+    let text = now (S .text) in
+    let out = now (S .out) in
+    let σ = stateOf (p4 .start .result) (replicate 128 0) (now (S .ids)) (now (S .tats)) in
+    let head = header-put out (p7 .put-header .ensures .0) (p7 .put-header .ensures .1) in
+    (ready-start (p4 .start .result) (replicate 128 0) (p4 .start .ensures) (omega arith), (p13 .pre .0, body-fits text out (p13 .pre .1) head σ))
+
+finish-requires : tie.Need-finish-requires
+finish-requires c κs =
+    let p10 = c .before .before .before .before .before .before .before .before .before .before in
+    let p15 = p10 .before .before .before .before .before in
+    let p18 = p15 .before .before .before in
+    let p24 = p18 .before .before .before .before .before .before in
+    let S = p24 .args in
+    let text = now (S .text) in
+    let out = now (S .out) in
+    let σ = stateOf (p15 .start .result) (replicate 128 0) (now (S .ids)) (now (S .tats)) in
+    let head = header-put out (p18 .put-header .ensures .0) (p18 .put-header .ensures .1) in
+    let fed = p10 .feed .ensures in
+    let body = put-then head (said σ text) (fed .at-is) (fed .out-is) in
+    (fed .ready, end-fits text out (p24 .pre .1) σ body (stateOf (p10 .feed .result .session) _ [] []))
+
+returns : tie.Need-returns
+returns c =
+    let p13 = c .before .before .before .before .before .before .before .before .before .before .before .before .before in
+    let p18 = p13 .before .before .before .before .before in
+    let p21 = p18 .before .before .before in
+    let p27 = p21 .before .before .before .before .before .before in
+    let S = p27 .args in
+    let text = now (S .text) in
+    let out = now (S .out) in
+    let σ = stateOf (p18 .start .result) (replicate 128 0) (now (S .ids)) (now (S .tats)) in
+    let head = header-put out (p21 .put-header .ensures .0) (p21 .put-header .ensures .1) in
+    let fed = p13 .feed .ensures in
+    let body = put-then head (said σ text) (fed .at-is) (fed .out-is) in
+    let lent = p27 .pre .0 in
+    let started = p18 .start .ensures in
+    let session = p13 .feed .result .session in
+    let all = put-as (text-is text (now (S .ids)) (now (S .tats)) lent started (replicate 128 0) session _ (fed .state-is)) (put-then body (endingOf session _) (c .before .before .finish .ensures .0) (c .before .before .finish .ensures .1)) in (
+      (omega (arith, all .place), all .bytes),
+      table-after text (now (S .ids)) (now (S .tats)) lent started (replicate 128 0) session _ (fed .state-is),
+    )
+
+pub run-spec : {M : Type 1} → statement M
+run-spec =
+    tie.close
+    (tie.spec
+    put-header-requires
+    (λ c κs. search needs)
+    (λ c. search needs)
+    feed-requires
+    (λ c. search needs)
+    finish-requires
+    (λ c. search needs)
+    (λ c. search needs)
+    (λ c. search needs)
+    returns)
