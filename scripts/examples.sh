@@ -20,7 +20,7 @@ shows() {
     done
 }
 
-# document 01's lines with the resets of document 02 (Item 2), tabs shown as spaces
+# document 01's lines with the resets of document 02 (Item 2) and its number 11 (Item 6), tabs shown as spaces
 tr ' ' '\t' <<'END' | cmp -s - examples/worked.out || fail "examples/worked.out is not the documents' output"
 outcome subscriber left reset wait
 0 7 1 1334 0
@@ -32,7 +32,7 @@ outcome subscriber left reset wait
 9 8 0 0 0
 0 8 0 2667 0
 9 7 0 0 0
-7 8 0 0 0
+11 8 0 0 0
 END
 tr ' ' '\t' <<'END' | cmp -s - examples/worked.tsv || fail "examples/worked.tsv is not document 01's input"
 plan 1 3 1000 2
@@ -47,7 +47,7 @@ ask 2000 8 2
 ask 2000 7 1
 ask 1999 8 1
 END
-shows day.out 0 3 4 5 6 7 8 9 10
+shows day.out 0 3 4 5 6 8 9 10 11
 shows refused-plan.out 1
 shows too-many-slots.out 2
 

@@ -74,7 +74,7 @@ for text in "$root"/examples/*.tsv; do
     cmp "$output" "${text%.tsv}.out" || fail "under valgrind the text program does not print ${text%.tsv}.out"
 done
 
-step "the comparison with guard words around every column and the answer, under valgrind: $*"
+step "the comparison with guard words around every column, the newest moment and the answer, under valgrind: $*"
 build_rust differential
 clean "the comparison with guard words" "$rust/differential" "$@"
 

@@ -16,11 +16,11 @@ static const uint32_t limit = 3, period = 1000, burst = 2;
 
 /* GCRA's table */
 static uint32_t gcra_ids[SLOTS];
-static uint64_t tats[SLOTS];
+static uint64_t tats[SLOTS], gcra_newest;
 
 /* the token bucket's table */
 static uint32_t bucket_ids[SLOTS];
-static uint64_t levels[SLOTS], lasts[SLOTS];
+static uint64_t levels[SLOTS], lasts[SLOTS], bucket_newest;
 
 static void print_numbers(const uint64_t out[RAILCADENCE_NUMBERS])
 {
@@ -41,8 +41,9 @@ static void print(const uint64_t gcra[RAILCADENCE_NUMBERS],
 static void clear(void)
 {
     uint64_t gcra[RAILCADENCE_NUMBERS], bucket[RAILCADENCE_NUMBERS];
-    railcadence_gcra_clear(gcra_ids, SLOTS, tats, SLOTS, gcra);
-    railcadence_token_bucket_clear(bucket_ids, SLOTS, levels, SLOTS, lasts, SLOTS, bucket);
+    railcadence_gcra_clear(gcra_ids, SLOTS, tats, SLOTS, &gcra_newest, gcra);
+    railcadence_token_bucket_clear(bucket_ids, SLOTS, levels, SLOTS, lasts, SLOTS, &bucket_newest,
+                                   bucket);
     printf("clear");
     print(gcra, bucket);
 }
@@ -50,10 +51,10 @@ static void clear(void)
 static void acquire(uint64_t moment, uint32_t subscriber, uint32_t cost)
 {
     uint64_t gcra[RAILCADENCE_NUMBERS], bucket[RAILCADENCE_NUMBERS];
-    railcadence_gcra_acquire(limit, period, burst, gcra_ids, SLOTS, tats, SLOTS,
+    railcadence_gcra_acquire(limit, period, burst, gcra_ids, SLOTS, tats, SLOTS, &gcra_newest,
                              moment, subscriber, cost, gcra);
     railcadence_token_bucket_acquire(limit, period, burst, bucket_ids, SLOTS,
-                                     levels, SLOTS, lasts, SLOTS,
+                                     levels, SLOTS, lasts, SLOTS, &bucket_newest,
                                      moment, subscriber, cost, bucket);
     printf("acquire %" PRIu64 " %" PRIu32 " %" PRIu32, moment, subscriber, cost);
     print(gcra, bucket);
@@ -62,10 +63,10 @@ static void acquire(uint64_t moment, uint32_t subscriber, uint32_t cost)
 static void peek(uint64_t moment, uint32_t subscriber)
 {
     uint64_t gcra[RAILCADENCE_NUMBERS], bucket[RAILCADENCE_NUMBERS];
-    railcadence_gcra_peek(limit, period, burst, gcra_ids, SLOTS, tats, SLOTS,
+    railcadence_gcra_peek(limit, period, burst, gcra_ids, SLOTS, tats, SLOTS, &gcra_newest,
                           moment, subscriber, gcra);
     railcadence_token_bucket_peek(limit, period, burst, bucket_ids, SLOTS,
-                                  levels, SLOTS, lasts, SLOTS,
+                                  levels, SLOTS, lasts, SLOTS, &bucket_newest,
                                   moment, subscriber, bucket);
     printf("peek %" PRIu64 " %" PRIu32, moment, subscriber);
     print(gcra, bucket);
@@ -85,8 +86,10 @@ int main(void)
     peek(1334, 8);       /* whoever has no slot has the whole burst left */
     acquire(2000, 8, 2); /* 7 owes nothing any more, so its slot is free */
     acquire(2000, 7, 1);
-    acquire(1999, 8, 1); /* the clock went back: no such record can be yet */
+    acquire(1999, 8, 1); /* the clock went back: 8 was admitted at 2000 */
+    peek(1999, 7);       /* whoever asks */
+    peek(2000, 7);
     clear();
-    peek(2000, 8);
+    peek(1999, 7); /* a cleared table takes any moment */
     return 0;
 }

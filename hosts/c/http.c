@@ -14,18 +14,18 @@
 struct gate {
     uint32_t limit, period, burst;
     uint32_t ids[SLOTS];
-    uint64_t tats[SLOTS];
+    uint64_t tats[SLOTS], newest;
 };
 
 /* Statuses of refusals are the host's own choice; this one takes its own mistakes for 500. */
 static const char *status(uint64_t number)
 {
     switch (number) {
-    case 0: return "200 OK";
-    case 5:
-    case 6: return "400 Bad Request";
-    case 8: return "429 Too Many Requests";
-    case 9: return "503 Service Unavailable";
+    case RAILCADENCE_ADMITTED: return "200 OK";
+    case RAILCADENCE_ZERO_COST:
+    case RAILCADENCE_COST_ABOVE_BURST: return "400 Bad Request";
+    case RAILCADENCE_THROTTLED: return "429 Too Many Requests";
+    case RAILCADENCE_TABLE_FULL: return "503 Service Unavailable";
     default: return "500 Internal Server Error";
     }
 }
@@ -35,7 +35,7 @@ static void print_fields(uint64_t number, const uint64_t field[RAILCADENCE_HTTP_
 {
     printf("RateLimit-Policy: \"shop\";q=%" PRIu64 ";w=%" PRIu64 "\n",
            field[RAILCADENCE_HTTP_QUOTA], field[RAILCADENCE_HTTP_WINDOW]);
-    if (number == 0 || number == 8)
+    if (number == RAILCADENCE_ADMITTED || number == RAILCADENCE_THROTTLED)
         printf("RateLimit: \"shop\";r=%" PRIu64 ";t=%" PRIu64 "\n",
                field[RAILCADENCE_HTTP_REMAINING], field[RAILCADENCE_HTTP_RESET]);
     if (field[RAILCADENCE_HTTP_RETRY_AFTER] != 0)
@@ -46,7 +46,7 @@ static void respond(struct gate *gate, uint64_t moment, uint32_t subscriber, uin
 {
     uint64_t answer[RAILCADENCE_NUMBERS], field[RAILCADENCE_HTTP_FIELDS];
     railcadence_gcra_acquire(gate->limit, gate->period, gate->burst, gate->ids, SLOTS, gate->tats,
-                             SLOTS, moment, subscriber, cost, answer);
+                             SLOTS, &gate->newest, moment, subscriber, cost, answer);
     railcadence_http_fields(gate->limit, gate->period, gate->burst, moment, answer, field);
     printf("acquire %" PRIu64 " %" PRIu32 " %" PRIu32 "\n", moment, subscriber, cost);
     printf("HTTP/1.1 %s\n", status(answer[RAILCADENCE_NUMBER]));
@@ -65,6 +65,7 @@ int main(void)
     respond(&shop, 1334, 7, 1);
     respond(&shop, 1334, 7, 3); /* more than the burst */
     respond(&shop, 1334, 8, 2); /* the only slot is taken */
+    respond(&shop, 1333, 7, 1); /* the clock went back */
     respond(&slow, 0, 7, 12);
     respond(&slow, 500, 7, 1); /* 59,500 ms to wait: 60 seconds */
     respond(&slow, 59500, 7, 1); /* 59 seconds later: not yet */

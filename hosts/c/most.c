@@ -18,6 +18,7 @@ static const uint32_t limit = 3, period = 1000, burst = 2;
 static struct {
     uint32_t gcra_ids[MOST + 1], bucket_ids[MOST + 1];
     uint64_t tats[MOST + 1], levels[MOST + 1], lasts[MOST + 1];
+    uint64_t gcra_newest, bucket_newest;
 } now, old;
 
 static void fill(void)
@@ -28,6 +29,7 @@ static void fill(void)
         now.levels[i] = 0;
         now.lasts[i] = 1000;
     }
+    now.gcra_newest = now.bucket_newest = 1000;
 }
 
 static void print(const uint64_t gcra[RAILCADENCE_NUMBERS],
@@ -53,10 +55,10 @@ static void acquire(size_t slots, uint64_t moment, uint32_t subscriber, uint32_t
     uint64_t gcra[RAILCADENCE_NUMBERS], bucket[RAILCADENCE_NUMBERS];
     old = now;
     railcadence_gcra_acquire(limit, period, burst, now.gcra_ids, slots, now.tats, slots,
-                             moment, subscriber, cost, gcra);
+                             &now.gcra_newest, moment, subscriber, cost, gcra);
     railcadence_token_bucket_acquire(limit, period, burst, now.bucket_ids, slots,
                                      now.levels, slots, now.lasts, slots,
-                                     moment, subscriber, cost, bucket);
+                                     &now.bucket_newest, moment, subscriber, cost, bucket);
     printf("%zu slots, acquire %" PRIu64 " %" PRIu32 " %" PRIu32, slots, moment, subscriber, cost);
     print(gcra, bucket);
 }
@@ -66,10 +68,10 @@ static void peek(size_t slots, uint64_t moment, uint32_t subscriber)
     uint64_t gcra[RAILCADENCE_NUMBERS], bucket[RAILCADENCE_NUMBERS];
     old = now;
     railcadence_gcra_peek(limit, period, burst, now.gcra_ids, slots, now.tats, slots,
-                          moment, subscriber, gcra);
+                          &now.gcra_newest, moment, subscriber, gcra);
     railcadence_token_bucket_peek(limit, period, burst, now.bucket_ids, slots,
                                   now.levels, slots, now.lasts, slots,
-                                  moment, subscriber, bucket);
+                                  &now.bucket_newest, moment, subscriber, bucket);
     printf("%zu slots, peek %" PRIu64 " %" PRIu32, slots, moment, subscriber);
     print(gcra, bucket);
 }
@@ -78,8 +80,9 @@ static void clear(size_t slots)
 {
     uint64_t gcra[RAILCADENCE_NUMBERS], bucket[RAILCADENCE_NUMBERS];
     old = now;
-    railcadence_gcra_clear(now.gcra_ids, slots, now.tats, slots, gcra);
-    railcadence_token_bucket_clear(now.bucket_ids, slots, now.levels, slots, now.lasts, slots, bucket);
+    railcadence_gcra_clear(now.gcra_ids, slots, now.tats, slots, &now.gcra_newest, gcra);
+    railcadence_token_bucket_clear(now.bucket_ids, slots, now.levels, slots, now.lasts, slots,
+                                   &now.bucket_newest, bucket);
     printf("%zu slots, clear", slots);
     print(gcra, bucket);
 }

@@ -1,6 +1,7 @@
 /* What has length 0 may be NULL. Each call of an engine is made with such columns, alone and beside
  * columns of one slot, and under a bad plan; its line has its outcome, and what the columns of one
- * slot hold afterwards, which was 5. A text, columns and an output of length 0 come after that.
+ * slot and newest hold afterwards, which was 5. A text, columns and an output of length 0 come after
+ * that.
  */
 #include "railcadence.h"
 
@@ -8,53 +9,63 @@
 #include <stdio.h>
 
 static uint32_t ids[1] = {5};
-static uint64_t records[1] = {5};
+static uint64_t records[1] = {5}, newest = 5;
 static uint64_t out[RAILCADENCE_NUMBERS];
 
 static void print(const char *call)
 {
-    printf("%s: %" PRIu64 ", %" PRIu32 " %" PRIu64 "\n", call, out[RAILCADENCE_NUMBER], ids[0],
-           records[0]);
+    printf("%s: %" PRIu64 ", %" PRIu32 " %" PRIu64 " %" PRIu64 "\n", call, out[RAILCADENCE_NUMBER],
+           ids[0], records[0], newest);
 }
 
 static void gcra(void)
 {
-    railcadence_gcra_acquire(3, 1000, 2, NULL, 0, NULL, 0, 1000, 7, 1, out);
+    railcadence_gcra_acquire(3, 1000, 2, NULL, 0, NULL, 0, &newest, 1000, 7, 1, out);
     print("GCRA acquires, no column");
-    railcadence_gcra_acquire(3, 1000, 2, ids, 1, NULL, 0, 1000, 7, 1, out);
+    railcadence_gcra_acquire(3, 1000, 2, ids, 1, NULL, 0, &newest, 1000, 7, 1, out);
     print("GCRA acquires, ids alone");
-    railcadence_gcra_acquire(3, 1000, 2, NULL, 0, records, 1, 1000, 7, 1, out);
+    railcadence_gcra_acquire(3, 1000, 2, NULL, 0, records, 1, &newest, 1000, 7, 1, out);
     print("GCRA acquires, tats alone");
-    railcadence_gcra_acquire(0, 1000, 2, NULL, 0, NULL, 0, 1000, 7, 1, out);
+    railcadence_gcra_acquire(0, 1000, 2, NULL, 0, NULL, 0, &newest, 1000, 7, 1, out);
     print("GCRA acquires, a bad plan");
-    railcadence_gcra_peek(3, 1000, 2, NULL, 0, NULL, 0, 1000, 7, out);
+    railcadence_gcra_peek(3, 1000, 2, NULL, 0, NULL, 0, &newest, 1000, 7, out);
     print("GCRA peeks, no column");
-    railcadence_gcra_peek(3, 1000, 2, ids, 1, NULL, 0, 1000, 7, out);
+    railcadence_gcra_peek(3, 1000, 2, ids, 1, NULL, 0, &newest, 1000, 7, out);
     print("GCRA peeks, ids alone");
-    railcadence_gcra_clear(NULL, 0, NULL, 0, out);
+    railcadence_gcra_clear(NULL, 0, NULL, 0, &newest, out);
     print("GCRA clears, no column");
-    railcadence_gcra_clear(ids, 1, NULL, 0, out);
+    railcadence_gcra_clear(ids, 1, NULL, 0, &newest, out);
     print("GCRA clears, ids alone");
 }
 
 static void token_bucket(void)
 {
-    railcadence_token_bucket_acquire(3, 1000, 2, NULL, 0, NULL, 0, NULL, 0, 1000, 7, 1, out);
+    railcadence_token_bucket_acquire(3, 1000, 2, NULL, 0, NULL, 0, NULL, 0,
+                                     &newest, 1000, 7, 1, out);
     print("token bucket acquires, no column");
-    railcadence_token_bucket_acquire(3, 1000, 2, ids, 1, NULL, 0, NULL, 0, 1000, 7, 1, out);
+    railcadence_token_bucket_acquire(3, 1000, 2, ids, 1, NULL, 0, NULL, 0,
+                                     &newest, 1000, 7, 1, out);
     print("token bucket acquires, ids alone");
-    railcadence_token_bucket_acquire(3, 1000, 2, ids, 1, records, 1, NULL, 0, 1000, 7, 1, out);
+    railcadence_token_bucket_acquire(3, 1000, 2, ids, 1, records, 1, NULL, 0,
+                                     &newest, 1000, 7, 1, out);
     print("token bucket acquires, no lasts");
-    railcadence_token_bucket_acquire(0, 1000, 2, NULL, 0, NULL, 0, NULL, 0, 1000, 7, 1, out);
+    railcadence_token_bucket_acquire(0, 1000, 2, NULL, 0, NULL, 0, NULL, 0,
+                                     &newest, 1000, 7, 1, out);
     print("token bucket acquires, a bad plan");
-    railcadence_token_bucket_peek(3, 1000, 2, NULL, 0, NULL, 0, NULL, 0, 1000, 7, out);
+    railcadence_token_bucket_peek(3, 1000, 2, NULL, 0, NULL, 0, NULL, 0, &newest, 1000, 7, out);
     print("token bucket peeks, no column");
-    railcadence_token_bucket_peek(3, 1000, 2, ids, 1, records, 1, NULL, 0, 1000, 7, out);
+    railcadence_token_bucket_peek(3, 1000, 2, ids, 1, records, 1, NULL, 0, &newest, 1000, 7, out);
     print("token bucket peeks, no lasts");
-    railcadence_token_bucket_clear(NULL, 0, NULL, 0, NULL, 0, out);
+    railcadence_token_bucket_clear(NULL, 0, NULL, 0, NULL, 0, &newest, out);
     print("token bucket clears, no column");
-    railcadence_token_bucket_clear(ids, 1, records, 1, NULL, 0, out);
+    railcadence_token_bucket_clear(ids, 1, records, 1, NULL, 0, &newest, out);
     print("token bucket clears, no lasts");
+}
+
+static void print_result(const char *call, const uint64_t result[RAILCADENCE_TEXT_NUMBERS])
+{
+    printf("%s: %" PRIu64 ", %" PRIu64 " bytes, %" PRIu64 "\n", call, result[RAILCADENCE_RESULT],
+           result[RAILCADENCE_BYTES], newest);
 }
 
 static void text(void)
@@ -62,13 +73,13 @@ static void text(void)
     static uint32_t lent_ids[1024];
     static uint64_t lent_tats[1024], result[RAILCADENCE_TEXT_NUMBERS];
     static uint8_t lent_out[140];
-    railcadence_transcribe(NULL, 0, lent_ids, 1024, lent_tats, 1024, lent_out, 140, result);
-    printf("no text: %" PRIu64 ", %" PRIu64 " bytes\n%.*s", result[RAILCADENCE_RESULT], result[RAILCADENCE_BYTES],
-           (int)result[RAILCADENCE_BYTES], (const char *)lent_out);
-    railcadence_transcribe(NULL, 0, NULL, 0, NULL, 0, NULL, 0, result);
-    printf("no text, no column: %" PRIu64 ", %" PRIu64 " bytes\n", result[RAILCADENCE_RESULT], result[RAILCADENCE_BYTES]);
-    railcadence_transcribe(NULL, 0, lent_ids, 1024, lent_tats, 1024, NULL, 0, result);
-    printf("no text, no output: %" PRIu64 ", %" PRIu64 " bytes\n", result[RAILCADENCE_RESULT], result[RAILCADENCE_BYTES]);
+    railcadence_transcribe(NULL, 0, lent_ids, 1024, lent_tats, 1024, &newest, lent_out, 140, result);
+    print_result("no text", result);
+    printf("%.*s", (int)result[RAILCADENCE_BYTES], (const char *)lent_out);
+    railcadence_transcribe(NULL, 0, NULL, 0, NULL, 0, &newest, NULL, 0, result);
+    print_result("no text, no column", result);
+    railcadence_transcribe(NULL, 0, lent_ids, 1024, lent_tats, 1024, &newest, NULL, 0, result);
+    print_result("no text, no output", result);
 }
 
 int main(void)

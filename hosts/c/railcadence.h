@@ -9,6 +9,7 @@
  *     railcadence_gcra_peek             railcadence_token_bucket_peek
  *     railcadence_gcra_clear            railcadence_token_bucket_clear
  *     railcadence_transcribe            railcadence_http_fields
+ *     railcadence_may_retry
  *
  *     The archive is for x86-64 programs, and needs nothing but memset. C++ may include this file.
  *
@@ -19,9 +20,9 @@
  *
  *     Two engines keep a plan, GCRA and the token bucket, each with calls and columns of its own.
  *     On cleared tables with equally many slots, the same calls under one plan get the same
- *     answers from both, as long as the moments never fall from one clear to the next; where they
- *     fall, the answers may differ. GCRA stores one number a slot, the token bucket two. What each
- *     call does stands at its prototype. No clock is read: the moment is an argument.
+ *     answers from both, whatever their moments. GCRA stores one number a slot, the token bucket
+ *     two. What each call does stands at its prototype. No clock is read: the moment is an
+ *     argument.
  *
  * UNITS AND RANGES
  *     argument        least  most
@@ -33,21 +34,33 @@
  *     subscriber      1      4294967295                a number for whoever asks
  *     cost            1      burst                     units
  *
- *     Any values may be passed: outside these limits the answer says so, and no column is written.
+ *     Any values may be passed: outside these limits the answer says so, and nothing of the table
+ *     is written.
  *
  * THE TABLE
- *     Columns of one length, with an entry for each slot. Slot i is ids[i] and the engine's record
- *     for it: tats[i] for GCRA, levels[i] and lasts[i] for the token bucket. A slot whose id is 0
- *     is empty, whatever its other columns say; zeros everywhere are an empty table, and that is
- *     what a clear makes. A subscriber without a slot gets the lowest free one when it is
- *     admitted. A slot is free if it is empty or its subscriber owes nothing any more, so a table
- *     needs as many slots as subscribers owe something at the same time. A call looks at the slots
- *     from the first on, so it takes longer the more there are.
+ *     Columns of one length, with an entry for each slot, and beside them one number, `newest`.
+ *     Zeros everywhere are an empty table, and that is what a clear makes.
+ *
+ *     Slot i is ids[i] and the engine's record for it: tats[i] for GCRA, levels[i] and lasts[i] for
+ *     the token bucket. A slot whose id is 0 is empty, whatever its other columns say. A subscriber
+ *     without a slot gets the lowest free one when it is admitted. A slot is free if it is empty or
+ *     its subscriber owes nothing any more, so a table needs as many slots as subscribers owe
+ *     something at the same time. A call looks at the slots from the first on, so it takes longer
+ *     the more there are.
+ *
+ *     newest is the newest moment at which anything was admitted since the table was cleared,
+ *     whoever the subscriber; 0 if nothing was. An admission writes its moment there, a clear
+ *     writes 0, and nothing else writes it. Acquires and peeks at an earlier moment are refused
+ *     (outcome 11): the clock went back, or more than one clock serves the table. An equal moment
+ *     is not earlier. Any value may be in newest; where it is above the moment's limit, every
+ *     moment within the limit is refused so until a clear.
  *
  *     Tats and levels are counted in ticks. A millisecond is `limit` ticks and a unit costs
- *     `period` ticks, so keep a table to one plan, and clear it before it serves another. Between
- *     calls the columns may be read, copied and saved; a table that is loaded again goes on where
- *     it was.
+ *     `period` ticks, so keep a table to one plan, and clear it before it serves another.
+ *
+ *     Between calls the columns and newest may be read, copied and saved, all of them together; a
+ *     table that is loaded again goes on where it was. Its clock must go on too: where moments are
+ *     counted from another zero, clear the table.
  *
  * THE ANSWER
  *     Every call of an engine writes five numbers to out:
@@ -63,42 +76,57 @@
  *                                  same request is admitted, if nothing else is admitted meanwhile
  *                                  and that moment is within its limit; otherwise 0
  *
- *     The first line that applies gives the outcome. Under 1 to 7 and 9, and in the answer to a
- *     clear, left, reset and wait are 0.
+ *     The first line that applies gives the outcome. Under 1 to 7, 9 and 11, and in the answer to
+ *     a clear, left, reset and wait are 0. 'retry' has yes where the same request may simply be
+ *     made again later, and no where the caller is at fault and has something to mend first;
+ *     railcadence_may_retry says the same.
  *
- *     1  RAILCADENCE_BAD_PLAN          limit, period or burst outside its limits
- *     2  RAILCADENCE_BAD_TABLE         the columns are of different lengths, or have too few or too
- *                                      many slots
- *     3  RAILCADENCE_LATE_MOMENT       the moment is above its limit
- *     4  RAILCADENCE_NO_SUBSCRIBER     subscriber 0
- *     5  RAILCADENCE_ZERO_COST         cost 0
- *     6  RAILCADENCE_COST_ABOVE_BURST  the cost can never be admitted
- *     7  RAILCADENCE_CORRUPT_RECORD    the subscriber's own slot holds what no admission up to this
- *                                      moment can have left
- *     8  RAILCADENCE_THROTTLED         not now: wait
- *     9  RAILCADENCE_TABLE_FULL        the subscriber has no slot, and none is free
- *     0  RAILCADENCE_ADMITTED          admitted; of a peek, the report; of a clear, done
+ *         retry
+ *      1  no     RAILCADENCE_BAD_PLAN          limit, period or burst outside its limits
+ *      2  no     RAILCADENCE_BAD_TABLE         the columns are of different lengths, or have too
+ *                                              few or too many slots
+ *      3  no     RAILCADENCE_LATE_MOMENT       the moment is above its limit
+ *     11  no     RAILCADENCE_EARLY_MOMENT      the moment is before newest: set the clock right,
+ *                                              and use one clock for a table
+ *      4  no     RAILCADENCE_NO_SUBSCRIBER     subscriber 0
+ *      5  no     RAILCADENCE_ZERO_COST         cost 0
+ *      6  no     RAILCADENCE_COST_ABOVE_BURST  the cost can never be admitted
+ *      7  no     RAILCADENCE_CORRUPT_RECORD    the subscriber's own slot holds what no admission up
+ *                                              to this moment can have left: the table is damaged,
+ *                                              or the plan is another one; clear the table
+ *      8  yes    RAILCADENCE_THROTTLED         not now: wait
+ *      9  yes    RAILCADENCE_TABLE_FULL        the subscriber has no slot, and none is free
+ *      0         RAILCADENCE_ADMITTED          admitted
+ *                RAILCADENCE_REPORTED          of a peek: what is left and the reset; it admits
+ *                                              nothing, and there may be 0 left
+ *                RAILCADENCE_CLEARED           of a clear: done
+ *
+ *     Further numbers may come with further rules: treat one that you do not know as a refusal.
  *
  * MEMORY
  *     The caller owns all of it. Nothing is allocated, kept after the call, or freed.
  *
  *     Each column pointer must be aligned, and valid for as many elements as its length says: for
  *     reading, and for writing unless it is const. A column of length 0 may be NULL: it is neither
- *     read nor written, and the outcome is 2, or 1 if the plan is bad too. out must be valid for
- *     writing five numbers, and not NULL; what it held does not matter. The columns must not
- *     overlap each other or out.
+ *     read nor written, and the outcome is 2, or 1 if the plan is bad too. newest must be aligned,
+ *     valid for reading one number, and for writing it unless it is const, and never NULL, whatever
+ *     the lengths. out must be valid for writing five numbers, and not NULL; what it held does not
+ *     matter. The columns, newest and out must not overlap each other.
  *
  * THREADS
  *     One table serves one caller at a time: whoever calls from several threads holds a lock on
- *     the table. Only peeks of a table may overlap each other. There is no global state, so
- *     different tables may be used at the same time.
+ *     the table, and reads the clock under it, since a moment that was read before another's
+ *     admission may be earlier than that and get 11. Only peeks of a table may overlap each other.
+ *     There is no global state, so different tables may be used at the same time.
  *
  * EXAMPLE
- *     shop.c beside this file is a short program, example.c a longer one with both engines.
+ *     shop.c beside this file is a short program, example.c a longer one with both engines; clock.c
+ *     has a clock that goes back.
  */
 #ifndef RAILCADENCE_H
 #define RAILCADENCE_H
 
+#include <stdbool.h>
 #include <stddef.h>
 #include <stdint.h>
 
@@ -108,50 +136,61 @@ extern "C" {
 
 /* The places of the five numbers in out, and how many there are. */
 enum {
-    RAILCADENCE_NUMBER,
-    RAILCADENCE_SUBSCRIBER,
-    RAILCADENCE_LEFT,
-    RAILCADENCE_RESET,
-    RAILCADENCE_WAIT,
-    RAILCADENCE_NUMBERS
+    RAILCADENCE_NUMBER = 0,
+    RAILCADENCE_SUBSCRIBER = 1,
+    RAILCADENCE_LEFT = 2,
+    RAILCADENCE_RESET = 3,
+    RAILCADENCE_WAIT = 4,
+    RAILCADENCE_NUMBERS = 5
 };
 
-/* The outcomes. */
+/* The outcomes. 0 has a name for each kind of call. */
 enum {
-    RAILCADENCE_ADMITTED,
-    RAILCADENCE_BAD_PLAN,
-    RAILCADENCE_BAD_TABLE,
-    RAILCADENCE_LATE_MOMENT,
-    RAILCADENCE_NO_SUBSCRIBER,
-    RAILCADENCE_ZERO_COST,
-    RAILCADENCE_COST_ABOVE_BURST,
-    RAILCADENCE_CORRUPT_RECORD,
-    RAILCADENCE_THROTTLED,
-    RAILCADENCE_TABLE_FULL
+    RAILCADENCE_ADMITTED = 0,
+    RAILCADENCE_REPORTED = 0,
+    RAILCADENCE_CLEARED = 0,
+    RAILCADENCE_BAD_PLAN = 1,
+    RAILCADENCE_BAD_TABLE = 2,
+    RAILCADENCE_LATE_MOMENT = 3,
+    RAILCADENCE_NO_SUBSCRIBER = 4,
+    RAILCADENCE_ZERO_COST = 5,
+    RAILCADENCE_COST_ABOVE_BURST = 6,
+    RAILCADENCE_CORRUPT_RECORD = 7,
+    RAILCADENCE_THROTTLED = 8,
+    RAILCADENCE_TABLE_FULL = 9,
+    RAILCADENCE_EARLY_MOMENT = 11
 };
+
+/* Whether the same request may simply be made again later: under 8, after the wait, and under 9. */
+static inline bool railcadence_may_retry(uint64_t number)
+{
+    return number == RAILCADENCE_THROTTLED || number == RAILCADENCE_TABLE_FULL;
+}
 
 /* The GCRA engine. Its record is one number, the TAT: the moment at which nothing is owed any more,
  * in ticks. */
 
 /* Decides on a request, and spends its cost if it is admitted. Only outcome 0 writes in the
- * columns, and only in the subscriber's slot. */
+ * table: the subscriber's slot, and the moment in newest. */
 void railcadence_gcra_acquire(uint32_t limit, uint32_t period, uint32_t burst,
                               uint32_t *ids, size_t ids_len,
-                              uint64_t *tats, size_t tats_len,
+                              uint64_t *tats, size_t tats_len, uint64_t *newest,
                               uint64_t moment, uint32_t subscriber, uint32_t cost,
                               uint64_t out[RAILCADENCE_NUMBERS]);
 
-/* Reports what a subscriber has left and when nothing is owed, and spends nothing: outcomes 1 to 4
- * and 7, otherwise 0. A subscriber without a slot has the whole burst left. Writes no column. */
+/* Reports what a subscriber has left and when nothing is owed, and spends nothing: outcomes 1 to 4,
+ * 7 and 11, otherwise 0. A subscriber without a slot has the whole burst left. Nothing of the table
+ * is written. */
 void railcadence_gcra_peek(uint32_t limit, uint32_t period, uint32_t burst,
                            const uint32_t *ids, size_t ids_len,
-                           const uint64_t *tats, size_t tats_len,
+                           const uint64_t *tats, size_t tats_len, const uint64_t *newest,
                            uint64_t moment, uint32_t subscriber,
                            uint64_t out[RAILCADENCE_NUMBERS]);
 
-/* Makes every column all zeros, outcome 0; or outcome 2, and no column is written. */
+/* Makes every column all zeros and newest 0, outcome 0; or outcome 2, and nothing of the table is
+ * written. */
 void railcadence_gcra_clear(uint32_t *ids, size_t ids_len,
-                            uint64_t *tats, size_t tats_len,
+                            uint64_t *tats, size_t tats_len, uint64_t *newest,
                             uint64_t out[RAILCADENCE_NUMBERS]);
 
 /* The token bucket engine. Its record is two numbers: the level that the last admission left, in
@@ -161,29 +200,29 @@ void railcadence_gcra_clear(uint32_t *ids, size_t ids_len,
 void railcadence_token_bucket_acquire(uint32_t limit, uint32_t period, uint32_t burst,
                                       uint32_t *ids, size_t ids_len,
                                       uint64_t *levels, size_t levels_len,
-                                      uint64_t *lasts, size_t lasts_len,
+                                      uint64_t *lasts, size_t lasts_len, uint64_t *newest,
                                       uint64_t moment, uint32_t subscriber, uint32_t cost,
                                       uint64_t out[RAILCADENCE_NUMBERS]);
 
 void railcadence_token_bucket_peek(uint32_t limit, uint32_t period, uint32_t burst,
                                    const uint32_t *ids, size_t ids_len,
                                    const uint64_t *levels, size_t levels_len,
-                                   const uint64_t *lasts, size_t lasts_len,
+                                   const uint64_t *lasts, size_t lasts_len, const uint64_t *newest,
                                    uint64_t moment, uint32_t subscriber,
                                    uint64_t out[RAILCADENCE_NUMBERS]);
 
 void railcadence_token_bucket_clear(uint32_t *ids, size_t ids_len,
                                     uint64_t *levels, size_t levels_len,
-                                    uint64_t *lasts, size_t lasts_len,
+                                    uint64_t *lasts, size_t lasts_len, uint64_t *newest,
                                     uint64_t out[RAILCADENCE_NUMBERS]);
 
 /* The tabbed text: a plan line and asks, as the program railcadence reads them on standard input;
  * here a whole text at once, from memory to memory.
  *
- * Writes to out what the program prints: the header, and a line for each answer. ids and tats are
- * the GCRA table: a good first line clears as many slots as it names, and the asks use these; the
- * other slots, and all of them where the first line is refused, stay as they were. Bytes of out
- * after the text stay, and no NUL is added.
+ * Writes to out what the program prints: the header, and a line for each answer. ids, tats and
+ * newest are the GCRA table: a good first line clears as many slots as it names and makes newest 0,
+ * and the asks use these. The other slots stay as they were, and so do all slots and newest if
+ * there is no good first line. Bytes of out after the text stay, and no NUL is added.
  *
  *     ids_len, tats_len  at least 1024 each, however few slots the text names; they may differ
  *     out_len            at least 35 + 105 * (n + 1), where n is the number of LFs in text
@@ -196,23 +235,23 @@ void railcadence_token_bucket_clear(uint32_t *ids, size_t ids_len,
  *                                 RAILCADENCE_WRITTEN
  *
  * If it is not RAILCADENCE_WRITTEN, nothing but result is written. MEMORY holds here too: what has
- * length 0 may be NULL, result must be valid for writing two numbers, and what is not const must
- * overlap nothing else. */
+ * length 0 may be NULL, newest never, result must be valid for writing two numbers, and what is not
+ * const must overlap nothing else. */
 enum {
-    RAILCADENCE_RESULT,
-    RAILCADENCE_BYTES,
-    RAILCADENCE_TEXT_NUMBERS
+    RAILCADENCE_RESULT = 0,
+    RAILCADENCE_BYTES = 1,
+    RAILCADENCE_TEXT_NUMBERS = 2
 };
 
 enum {
-    RAILCADENCE_WRITTEN,
-    RAILCADENCE_SHORT_TABLE,
-    RAILCADENCE_SHORT_OUTPUT
+    RAILCADENCE_WRITTEN = 0,
+    RAILCADENCE_SHORT_TABLE = 1,
+    RAILCADENCE_SHORT_OUTPUT = 2
 };
 
 void railcadence_transcribe(const uint8_t *text, size_t text_len,
                             uint32_t *ids, size_t ids_len,
-                            uint64_t *tats, size_t tats_len,
+                            uint64_t *tats, size_t tats_len, uint64_t *newest,
                             uint8_t *out, size_t out_len,
                             uint64_t result[RAILCADENCE_TEXT_NUMBERS]);
 
@@ -220,17 +259,17 @@ void railcadence_transcribe(const uint8_t *text, size_t text_len,
  * "shop";r=REMAINING;t=RESET, and beside status 429 Retry-After: RETRY_AFTER. All times are whole
  * seconds, rounded up. The places of the five numbers in out, and how many there are. */
 enum {
-    RAILCADENCE_HTTP_QUOTA,       /* the burst */
-    RAILCADENCE_HTTP_WINDOW,      /* in which a whole burst is earned */
-    RAILCADENCE_HTTP_REMAINING,   /* under 0 and 8, what is left; otherwise 0 */
-    RAILCADENCE_HTTP_RESET,       /* under 0 and 8, from the moment to the reset: a client that has
-                                   * a slot and waits so long gets its whole burst, if nothing else
-                                   * is admitted meanwhile, and a second less is not enough;
-                                   * otherwise 0 */
-    RAILCADENCE_HTTP_RETRY_AFTER, /* under 8, the wait: a client that waits so long is admitted, if
-                                   * nothing else is admitted meanwhile, and a second less is not
-                                   * enough; otherwise 0 */
-    RAILCADENCE_HTTP_FIELDS
+    RAILCADENCE_HTTP_QUOTA = 0,       /* the burst */
+    RAILCADENCE_HTTP_WINDOW = 1,      /* in which a whole burst is earned */
+    RAILCADENCE_HTTP_REMAINING = 2,   /* under 0 and 8, what is left; otherwise 0 */
+    RAILCADENCE_HTTP_RESET = 3,       /* under 0 and 8, from the moment to the reset: a client that
+                                       * has a slot and waits so long gets its whole burst, if
+                                       * nothing else is admitted meanwhile, and a second less is
+                                       * not enough; otherwise 0 */
+    RAILCADENCE_HTTP_RETRY_AFTER = 4, /* under 8, the wait: a client that waits so long is admitted,
+                                       * if nothing else is admitted meanwhile, and a second less is
+                                       * not enough; otherwise 0 */
+    RAILCADENCE_HTTP_FIELDS = 5
 };
 
 /* Reckons the fields for an answer that an acquire or a peek under this plan gave at this moment.

@@ -6,19 +6,57 @@
 hosts/c/railcadence.h says what each argument is, its limits, and what an answer's numbers mean. What is outside its
 limits is answered like anything else; only what does not fit the 32 or 64 bits of an argument is a ValueError.
 
-A call holds Python's global lock, so threads may share a table.
+A call holds Python's global lock, so threads may share a table. They should read the clock and call under a lock of their
+own: a moment that was read before another thread's admission may be earlier than that, and is then refused.
 
 The shared library is librailcadence.so in the folder that RAILCADENCE_LIB names, or else in the repository's build/.
 """
 
+from __future__ import annotations
+
 import operator
 import os
-from ctypes import POINTER, PyDLL, c_size_t, c_uint16, c_uint32, c_uint64
+from ctypes import POINTER, Array, PyDLL, c_size_t, c_uint16, c_uint32, c_uint64
+from enum import IntEnum
 from pathlib import Path
-from typing import NamedTuple
+from typing import Any, Callable, ClassVar, List, NamedTuple, Optional, Tuple, Union
+
+
+class Number(IntEnum):
+    """What came of a call. A number of further rules, which this module does not know, stays an int."""
+
+    ADMITTED = 0
+    BAD_PLAN = 1
+    BAD_TABLE = 2
+    LATE_MOMENT = 3
+    NO_SUBSCRIBER = 4
+    ZERO_COST = 5
+    COST_ABOVE_BURST = 6
+    CORRUPT_RECORD = 7
+    THROTTLED = 8
+    TABLE_FULL = 9
+    EARLY_MOMENT = 11
+
 
 (ADMITTED, BAD_PLAN, BAD_TABLE, LATE_MOMENT, NO_SUBSCRIBER, ZERO_COST, COST_ABOVE_BURST, CORRUPT_RECORD, THROTTLED,
- TABLE_FULL) = range(10)
+ TABLE_FULL, EARLY_MOMENT) = Number
+
+
+def may_retry(number: int) -> bool:
+    """Whether the same request may simply be made again later: throttled, after the wait, or the table was full. Under any
+    other refusal the caller is at fault, and has something to mend first."""
+    return number in (THROTTLED, TABLE_FULL)
+
+
+def _known(number: int) -> int:
+    try:
+        return Number(number)
+    except ValueError:
+        return number
+
+
+def _refusal(number: int) -> Optional[int]:
+    return None if number == 0 else _known(number)
 
 
 class Plan(NamedTuple):
@@ -30,14 +68,28 @@ class Plan(NamedTuple):
 
 
 class Answer(NamedTuple):
-    """The outcome's number, the subscriber asked for, units left, the first moment at which nothing is owed, and milliseconds to
-    wait."""
+    """The answer to an acquire: what came of it, a `Number` if it is known; the subscriber asked for; units left; the first
+    moment at which nothing is owed; and milliseconds to wait."""
 
     number: int
     subscriber: int
     left: int
     reset: int
     wait: int
+
+
+class Report(NamedTuple):
+    """The answer to a peek, which admits nothing, however much is left: None, or the number of the refusal; the subscriber
+    asked for; units left; and the first moment at which nothing is owed."""
+
+    refusal: Optional[int]
+    subscriber: int
+    left: int
+    reset: int
+
+    def to_numbers(self) -> Tuple[int, int, int, int, int]:
+        """The five numbers of the C interface."""
+        return self.refusal or 0, self.subscriber, self.left, self.reset, 0
 
 
 class HttpFields(NamedTuple):
@@ -51,7 +103,7 @@ class HttpFields(NamedTuple):
     retry_after: int
 
 
-def _load():
+def _load() -> PyDLL:
     folder = os.environ.get("RAILCADENCE_LIB") or Path(__file__).resolve().parents[2] / "build"
     path = Path(folder) / "librailcadence.so"
     if not path.is_file():
@@ -62,14 +114,14 @@ def _load():
 _library = _load()
 
 
-def _function(name, *kinds):
+def _function(name: str, *kinds: Any) -> Callable[..., None]:
     """A function of the library, with its arguments' types as the header has them."""
     function = getattr(_library, f"railcadence_{name}")
     function.argtypes, function.restype = kinds, None
     return function
 
 
-def _fits(kind, **arguments):
+def _fits(kind: Callable[[int], Any], **arguments: int) -> List[int]:
     """The arguments' values, each of which must fit: ctypes alone would cut it to its lowest bits."""
     most = kind(-1).value
     for name, value in arguments.items():
@@ -83,62 +135,89 @@ _NUMBERS = POINTER(c_uint64)
 _http_fields = _function("http_fields", *_PLAN, c_uint64, _NUMBERS, _NUMBERS)
 
 
-def http_fields(plan, moment, answer):
-    """What to tell a client of an answer that the plan gave at the moment."""
+def http_fields(plan: Plan, moment: int, answer: Union[Answer, Report]) -> HttpFields:
+    """What to tell a client of an answer or a report that the plan gave at the moment."""
     asked = _fits(c_uint32, **plan._asdict()) + _fits(c_uint64, moment=moment)
+    numbers = answer.to_numbers() if isinstance(answer, Report) else answer
     out = (c_uint64 * 5)()
-    _http_fields(*asked, (c_uint64 * 5)(*answer), out)
+    _http_fields(*asked, (c_uint64 * 5)(*numbers), out)
     return HttpFields(*out)
 
 
 class _Table:
-    """The columns, `ids` and those of the engine's record, and the engine's calls on them."""
+    """The columns, `ids` and those of the engine's record, the newest moment, and the engine's calls on them."""
 
-    def __init__(self, slots):
+    _records: ClassVar[Tuple[str, ...]]
+    _acquire: ClassVar[Callable[..., None]]
+    _peek: ClassVar[Callable[..., None]]
+    _clear: ClassVar[Callable[..., None]]
+    ids: Array[c_uint32]
+
+    def __init__(self, slots: int) -> None:
         (slots,) = _fits(c_uint16, slots=slots)
         self.ids = (c_uint32 * slots)()
         for record in self._records:
             setattr(self, record, (c_uint64 * slots)())
+        self._newest = c_uint64(0)
 
-    def acquire(self, plan, moment, subscriber, cost):
+    @property
+    def newest(self) -> int:
+        """The newest moment at which anything was admitted since the table was cleared; 0 if nothing was. An earlier one is
+        refused. It is saved and loaded with the columns."""
+        return self._newest.value
+
+    @newest.setter
+    def newest(self, newest: int) -> None:
+        (self._newest.value,) = _fits(c_uint64, newest=newest)
+
+    def acquire(self, plan: Plan, moment: int, subscriber: int, cost: int) -> Answer:
         """Decides on a request for `cost` units, and spends them if it is admitted."""
         asked = _fits(c_uint64, moment=moment) + _fits(c_uint32, subscriber=subscriber, cost=cost)
-        return self._answer(self._acquire, _fits(c_uint32, **plan._asdict()), asked)
+        number, *others = self._call(self._acquire, _fits(c_uint32, **plan._asdict()), asked)
+        return Answer(_known(number), *others)
 
-    def peek(self, plan, moment, subscriber):
+    def peek(self, plan: Plan, moment: int, subscriber: int) -> Report:
         """Reports what a subscriber has left, and spends nothing."""
         asked = _fits(c_uint64, moment=moment) + _fits(c_uint32, subscriber=subscriber)
-        return self._answer(self._peek, _fits(c_uint32, **plan._asdict()), asked)
+        number, who, left, reset, _ = self._call(self._peek, _fits(c_uint32, **plan._asdict()), asked)
+        return Report(_refusal(number), who, left, reset)
 
-    def clear(self):
-        """Makes every column all zeros."""
-        return self._answer(self._clear, [], [])
+    def clear(self) -> Optional[int]:
+        """Makes every column all zeros and the newest moment 0, and gives None; or gives the number of the refusal, which is
+        BAD_TABLE, and changes nothing."""
+        return _refusal(self._call(self._clear, [], [])[0])
 
-    def _answer(self, function, plan, asked):
+    def _call(self, function: Callable[..., None], plan: List[int], asked: List[int]) -> List[int]:
+        """The five numbers that a function of the library gives."""
         columns = [self.ids] + [getattr(self, record) for record in self._records]
         lent = [part for column in columns for part in (column, len(column))]
         out = (c_uint64 * 5)()
-        function(*plan, *lent, *asked, out)
-        return Answer(*out)
+        function(*plan, *lent, self._newest, *asked, out)
+        return list(out)
 
 
-_TWO_COLUMNS = [POINTER(c_uint32), c_size_t, POINTER(c_uint64), c_size_t]
-_THREE_COLUMNS = [*_TWO_COLUMNS, POINTER(c_uint64), c_size_t]
+_IDS = [POINTER(c_uint32), c_size_t]
+_RECORD = [POINTER(c_uint64), c_size_t]
+_GCRA = [*_IDS, *_RECORD, POINTER(c_uint64)]
+_TOKEN_BUCKET = [*_IDS, *_RECORD, *_RECORD, POINTER(c_uint64)]
 
 
 class Gcra(_Table):
-    """A table of the GCRA engine: columns `ids` and `tats`."""
+    """A table of the GCRA engine: columns `ids` and `tats`, and `newest`."""
 
     _records = ("tats",)
-    _acquire = _function("gcra_acquire", *_PLAN, *_TWO_COLUMNS, c_uint64, c_uint32, c_uint32, _NUMBERS)
-    _peek = _function("gcra_peek", *_PLAN, *_TWO_COLUMNS, c_uint64, c_uint32, _NUMBERS)
-    _clear = _function("gcra_clear", *_TWO_COLUMNS, _NUMBERS)
+    _acquire = _function("gcra_acquire", *_PLAN, *_GCRA, c_uint64, c_uint32, c_uint32, _NUMBERS)
+    _peek = _function("gcra_peek", *_PLAN, *_GCRA, c_uint64, c_uint32, _NUMBERS)
+    _clear = _function("gcra_clear", *_GCRA, _NUMBERS)
+    tats: Array[c_uint64]
 
 
 class TokenBucket(_Table):
-    """A table of the token bucket engine: columns `ids`, `levels` and `lasts`."""
+    """A table of the token bucket engine: columns `ids`, `levels` and `lasts`, and `newest`."""
 
     _records = ("levels", "lasts")
-    _acquire = _function("token_bucket_acquire", *_PLAN, *_THREE_COLUMNS, c_uint64, c_uint32, c_uint32, _NUMBERS)
-    _peek = _function("token_bucket_peek", *_PLAN, *_THREE_COLUMNS, c_uint64, c_uint32, _NUMBERS)
-    _clear = _function("token_bucket_clear", *_THREE_COLUMNS, _NUMBERS)
+    _acquire = _function("token_bucket_acquire", *_PLAN, *_TOKEN_BUCKET, c_uint64, c_uint32, c_uint32, _NUMBERS)
+    _peek = _function("token_bucket_peek", *_PLAN, *_TOKEN_BUCKET, c_uint64, c_uint32, _NUMBERS)
+    _clear = _function("token_bucket_clear", *_TOKEN_BUCKET, _NUMBERS)
+    levels: Array[c_uint64]
+    lasts: Array[c_uint64]

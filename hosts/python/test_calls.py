@@ -1,19 +1,30 @@
-"""Tests of railcadence.py: the worked example's lines, the reset, numbers that do not fit, and tables of any size."""
+"""Tests of railcadence.py: the worked example's lines, the reset, a clock that goes back, numbers that do not fit or are not
+known, and tables of any size."""
 
 import unittest
 from ctypes import c_uint32, c_uint64
+from inspect import signature
 from pathlib import Path
+from typing import get_type_hints
 
-from railcadence import ADMITTED, BAD_TABLE, TABLE_FULL, Answer, Gcra, HttpFields, Plan, TokenBucket, http_fields
+import railcadence
+from railcadence import (ADMITTED, BAD_TABLE, EARLY_MOMENT, LATE_MOMENT, TABLE_FULL, Answer, Gcra, HttpFields, Number, Plan,
+                         Report, TokenBucket, http_fields, may_retry)
 
 EXAMPLES = Path(__file__).resolve().parents[2] / "examples"
 PLAN = Plan(limit=3, period=1000, burst=2)
+LAST_MOMENT = 2**42 - 1
 ENGINES = [Gcra, TokenBucket]
 
 
 def lines(name):
     """The lines of a text in examples/, as lists of fields."""
     return [line.split("\t") for line in (EXAMPLES / name).read_text().splitlines()]
+
+
+def stored(table):
+    """The columns and the newest moment."""
+    return [list(table.ids), *(list(getattr(table, record)) for record in table._records), table.newest]
 
 
 class Calls(unittest.TestCase):
@@ -33,6 +44,81 @@ class Calls(unittest.TestCase):
             self.assertEqual(table.acquire(PLAN, spent.reset - 1, 7, 2), Answer(8, 7, 1, 1667, 1))
             self.assertEqual(table.acquire(PLAN, spent.reset, 7, 2).number, ADMITTED)
 
+    def test_a_clock_that_goes_back(self):
+        for engine in ENGINES:
+            table = engine(slots=2)
+            self.assertEqual(table.acquire(PLAN, 1000, 7, 1).number, ADMITTED)
+            before = stored(table)
+            for subscriber, cost in [(7, 1), (8, 1), (0, 1), (7, 0), (7, 3)]:
+                self.assertEqual(table.acquire(PLAN, 999, subscriber, cost), Answer(EARLY_MOMENT, subscriber, 0, 0, 0))
+                self.assertEqual(table.peek(PLAN, 999, subscriber), Report(EARLY_MOMENT, subscriber, 0, 0))
+            self.assertEqual(stored(table), before)
+            self.assertEqual(table.acquire(PLAN, 1000, 8, 2).number, ADMITTED)
+            self.assertEqual(table.acquire(PLAN, 1001, 8, 1), Answer(8, 8, 0, 1667, 333))
+            self.assertEqual(table.newest, 1000)
+            self.assertEqual(table.acquire(PLAN, 1334, 8, 1).number, ADMITTED)
+            self.assertEqual(table.newest, 1334)
+            self.assertIsNone(table.clear())
+            self.assertEqual(stored(table), stored(engine(slots=2)))
+            self.assertEqual(table.acquire(PLAN, 0, 7, 2).number, ADMITTED)
+
+    def test_a_newest_moment_that_was_saved(self):
+        for engine in ENGINES:
+            table = engine(slots=1)
+            for newest in [LAST_MOMENT + 1, 2**64 - 1]:
+                table.newest = newest
+                self.assertEqual(table.acquire(PLAN, LAST_MOMENT, 7, 1).number, EARLY_MOMENT)
+                self.assertEqual(table.peek(PLAN, LAST_MOMENT, 7).refusal, EARLY_MOMENT)
+                self.assertEqual(table.acquire(PLAN, LAST_MOMENT + 1, 7, 1).number, LATE_MOMENT)
+                self.assertEqual(table.newest, newest)
+            self.assertIsNone(table.clear())
+            table.newest = 1000
+            self.assertEqual(table.acquire(PLAN, 999, 7, 1).number, EARLY_MOMENT)
+            self.assertEqual(table.acquire(PLAN, 1000, 7, 1).number, ADMITTED)
+            for wrong in [-1, 2**64]:
+                with self.assertRaisesRegex(ValueError, f"^newest is {wrong}; it must be"):
+                    table.newest = wrong
+
+    def test_the_numbers(self):
+        names = {number.name: int(number) for number in Number}
+        self.assertEqual(names, {"ADMITTED": 0, "BAD_PLAN": 1, "BAD_TABLE": 2, "LATE_MOMENT": 3, "NO_SUBSCRIBER": 4,
+                                 "ZERO_COST": 5, "COST_ABOVE_BURST": 6, "CORRUPT_RECORD": 7, "THROTTLED": 8, "TABLE_FULL": 9,
+                                 "EARLY_MOMENT": 11})
+        for name in names:
+            self.assertIs(getattr(railcadence, name), Number[name])
+        self.assertEqual([number for number in [*range(20), 2**64 - 1] if may_retry(number)], [8, 9])
+        self.assertIs(Gcra(slots=1).acquire(PLAN, 1000, 7, 3).number, Number.COST_ABOVE_BURST)
+        self.assertIs(Gcra(slots=0).clear(), Number.BAD_TABLE)
+
+    def test_a_number_of_further_rules_stays_a_number(self):
+        def further(*arguments):
+            arguments[-1][0] = 13
+
+        class Further(Gcra):
+            _acquire = _peek = _clear = staticmethod(further)
+
+        table = Further(slots=1)
+        for number in [table.acquire(PLAN, 1000, 7, 1).number, table.peek(PLAN, 1000, 7).refusal, table.clear()]:
+            self.assertEqual((number, type(number)), (13, int))
+
+    def test_a_peek_admits_nothing(self):
+        for engine in ENGINES:
+            table = engine(slots=1)
+            table.acquire(PLAN, 1000, 7, 2)
+            report = table.peek(PLAN, 1000, 7)
+            self.assertEqual(report, Report(None, 7, 0, 1667))
+            self.assertEqual(report.to_numbers(), (0, 7, 0, 1667, 0))
+            self.assertFalse(hasattr(report, "number"))
+            self.assertEqual(table.peek(PLAN, 1000, 0).to_numbers(), (4, 0, 0, 0, 0))
+
+    def test_every_call_has_type_hints(self):
+        calls = [http_fields, may_retry, Report.to_numbers]
+        for engine in ENGINES:
+            calls += [engine.__init__, engine.acquire, engine.peek, engine.clear, engine.newest.fget, engine.newest.fset]
+        for call in calls:
+            arguments = set(signature(call).parameters) - {"self"}
+            self.assertEqual(set(get_type_hints(call)), arguments | {"return"}, call.__qualname__)
+
     def test_numbers_that_do_not_fit(self):
         for engine in ENGINES:
             table = engine(slots=1)
@@ -45,13 +131,13 @@ class Calls(unittest.TestCase):
                 table.peek(PLAN._replace(period=2**32), 1000, 7)
             with self.assertRaises(TypeError):
                 table.peek(PLAN, 1000.5, 7)
-            self.assertEqual(table.peek(PLAN, 2**64 - 1, 2**32 - 1), Answer(3, 2**32 - 1, 0, 0, 0))
+            self.assertEqual(table.peek(PLAN, 2**64 - 1, 2**32 - 1), Report(3, 2**32 - 1, 0, 0))
             self.assertEqual(list(table.ids), [0])
 
     def test_tables_of_any_size(self):
         for engine in ENGINES:
-            for slots, number in [(0, BAD_TABLE), (1, ADMITTED), (65535, ADMITTED)]:
-                self.assertEqual(engine(slots).clear(), Answer(number, 0, 0, 0, 0))
+            for slots, refusal in [(0, BAD_TABLE), (1, None), (65535, None)]:
+                self.assertEqual(engine(slots).clear(), refusal)
             for slots in [-1, 65536]:
                 with self.assertRaisesRegex(ValueError, f"^slots is {slots}; it must be a whole number from 0 to 65535$"):
                     engine(slots)
@@ -63,8 +149,8 @@ class Calls(unittest.TestCase):
             for record in table._records:
                 setattr(table, record, (c_uint64 * 65536)())
             self.assertEqual(table.acquire(PLAN, 1000, 7, 1), Answer(BAD_TABLE, 7, 0, 0, 0))
-            self.assertEqual(table.peek(PLAN, 1000, 7), Answer(BAD_TABLE, 7, 0, 0, 0))
-            self.assertEqual(table.clear(), Answer(BAD_TABLE, 0, 0, 0, 0))
+            self.assertEqual(table.peek(PLAN, 1000, 7), Report(BAD_TABLE, 7, 0, 0))
+            self.assertEqual(table.clear(), BAD_TABLE)
 
     def test_the_last_of_65535_slots_is_found(self):
         spent = {"tats": 5000, "levels": 0, "lasts": 1000}  # what the whole burst leaves at 1000
@@ -85,6 +171,8 @@ class Calls(unittest.TestCase):
         table.acquire(plan, 0, 7, 12)
         throttled = table.acquire(plan, 500, 7, 1)  # 59,500 ms to wait
         self.assertEqual(http_fields(plan, 500, throttled), HttpFields(12, 720, 0, 720, 60))
+        self.assertEqual(http_fields(plan, 500, table.peek(plan, 500, 7)), HttpFields(12, 720, 0, 720, 0))
+        self.assertEqual(http_fields(plan, 500, table.peek(plan, 500, 0)), HttpFields(12, 720, 0, 0, 0))
         self.assertEqual(http_fields(plan._replace(limit=0), 500, throttled), HttpFields(0, 0, 0, 0, 0))
         with self.assertRaisesRegex(ValueError, "^moment is -1; it must be"):
             http_fields(plan, -1, throttled)
@@ -93,12 +181,13 @@ class Calls(unittest.TestCase):
         gcra, bucket = Gcra(slots=2), TokenBucket(slots=2)
         for table in [gcra, bucket]:
             self.assertEqual(table.acquire(PLAN, 1000, 7, 1), Answer(0, 7, 1, 1334, 0))
-            self.assertEqual(table.peek(PLAN, 1000, 7), Answer(0, 7, 1, 1334, 0))
-        self.assertEqual([list(gcra.ids), list(gcra.tats)], [[7, 0], [4000, 0]])
-        self.assertEqual([list(bucket.ids), list(bucket.levels), list(bucket.lasts)], [[7, 0], [1000, 0], [1000, 0]])
+            self.assertEqual(table.peek(PLAN, 1000, 7), Report(None, 7, 1, 1334))
+        self.assertEqual(stored(gcra), [[7, 0], [4000, 0], 1000])
+        self.assertEqual(stored(bucket), [[7, 0], [1000, 0], [1000, 0], 1000])
         again = Gcra(slots=2)
-        again.ids[:], again.tats[:] = list(gcra.ids), list(gcra.tats)
+        again.ids[:], again.tats[:], again.newest = stored(gcra)
         self.assertEqual(again.acquire(PLAN, 1000, 7, 2), Answer(8, 7, 1, 1334, 334))
+        self.assertEqual(again.acquire(PLAN, 999, 7, 1).number, EARLY_MOMENT)
 
 
 if __name__ == "__main__":

@@ -14,24 +14,26 @@ pub extern "C" fn railcadence_gcra_acquire(
     burst: u32,
     ids: &mut [u32],
     tats: &mut [u64],
+    newest: &mut u64,
     moment: u64,
     subscriber: u32,
     cost: u32,
     out: &mut [u64; 5],
 )
     ensures { λ _. ⌜ now (out .exit) ≡ five (acquire (requestOf (planOf limit period burst) moment subscriber cost)
-        (tableOf (now (ids .entry)) (now (tats .entry))) .answer) ⌝ }
-    ensures { λ _. ⌜ tableOf (now (ids .exit)) (now (tats .exit))
+        (tableOf (now (ids .entry)) (now (tats .entry)) (now (newest .entry))) .answer) ⌝ }
+    ensures { λ _. ⌜ tableOf (now (ids .exit)) (now (tats .exit)) (now (newest .exit))
         ≡ acquire (requestOf (planOf limit period burst) moment subscriber cost)
-        (tableOf (now (ids .entry)) (now (tats .entry))) .after ⌝ }
+        (tableOf (now (ids .entry)) (now (tats .entry)) (now (newest .entry))) .after ⌝ }
 {
     let plan = Plan {
         limit,
         period,
         burst,
     };
-    let answer = table_gcra::acquire(plan, ids, tats, Millis(moment), subscriber, cost);
-    *out = c_answer::five(answer.to_numbers());
+    let at = Millis(moment);
+    let told = table_gcra::acquire(plan, ids, tats, newest, at, subscriber, cost);
+    *out = c_answer::five(told.to_numbers());
 }
 
 // look
@@ -42,29 +44,37 @@ pub extern "C" fn railcadence_gcra_peek(
     burst: u32,
     ids: &[u32],
     tats: &[u64],
+    newest: &u64,
     moment: u64,
     subscriber: u32,
     out: &mut [u64; 5],
 )
     ensures { λ _. ⌜ now (out .exit) ≡ five (peek (queryOf (planOf limit period burst) moment subscriber)
-        (tableOf (now (ids .entry)) (now (tats .entry))) .answer) ⌝ }
+        (tableOf (now (ids .entry)) (now (tats .entry)) (now (newest .entry))) .answer) ⌝ }
 {
     let plan = Plan {
         limit,
         period,
         burst,
     };
-    let answer = table_gcra::peek(plan, ids, tats, Millis(moment), subscriber);
-    *out = c_answer::five(answer.to_numbers());
+    let at = Millis(moment);
+    let told = table_gcra::peek(plan, ids, tats, newest, at, subscriber);
+    *out = c_answer::five(told.to_numbers());
 }
 
 // clear
 #[no_mangle]
-pub extern "C" fn railcadence_gcra_clear(ids: &mut [u32], tats: &mut [u64], out: &mut [u64; 5])
-    ensures { λ _. ⌜ now (out .exit) ≡ five (clear (tableOf (now (ids .entry)) (now (tats .entry))) .answer) ⌝ }
-    ensures { λ _. ⌜ tableOf (now (ids .exit)) (now (tats .exit)) ≡ clear
-        (tableOf (now (ids .entry)) (now (tats .entry))) .after ⌝ }
+pub extern "C" fn railcadence_gcra_clear(
+    ids: &mut [u32],
+    tats: &mut [u64],
+    newest: &mut u64,
+    out: &mut [u64; 5],
+)
+    ensures { λ _. ⌜ now (out .exit) ≡ five (clear
+        (tableOf (now (ids .entry)) (now (tats .entry)) (now (newest .entry))) .answer) ⌝ }
+    ensures { λ _. ⌜ tableOf (now (ids .exit)) (now (tats .exit)) (now (newest .exit)) ≡ clear
+        (tableOf (now (ids .entry)) (now (tats .entry)) (now (newest .entry))) .after ⌝ }
 {
-    let cleared = table_gcra::clear(ids, tats);
+    let cleared = table_gcra::clear(ids, tats, newest);
     *out = c_answer::five(cleared.to_numbers());
 }

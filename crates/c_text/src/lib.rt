@@ -1,5 +1,6 @@
 // A whole tabbed text for C (document 01, 'The tabbed text'). Any values may be passed.
 ghost use mathlib.Core.Path.{_≡_};
+ghost use Rattle.table_gcra.specs.Table.{tableOf};
 ghost use Rattle.text_transcript.specs.Whole.{transcribed, lentOf};
 ghost use Rattle.c_text.specs.Text.{two};
 use text_transcript::whole;
@@ -21,14 +22,17 @@ pub extern "C" fn railcadence_transcribe(
     text: &[u8],
     ids: &mut [u32],
     tats: &mut [u64],
+    newest: &mut u64,
     out: &mut [u8],
     result: &mut [u64; 2],
 )
     ensures { λ _. ⌜ now (result .exit) ≡ two
-        (transcribed (now (text .entry)) (now (ids .entry)) (now (tats .entry)) (now (out .entry)) .answer) ⌝ }
-    ensures { λ _. ⌜ lentOf (now (ids .exit)) (now (tats .exit)) (now (out .exit))
-        ≡ transcribed (now (text .entry)) (now (ids .entry)) (now (tats .entry)) (now (out .entry)) .left ⌝ }
+        (transcribed (now (text .entry))
+        (tableOf (now (ids .entry)) (now (tats .entry)) (now (newest .entry))) (now (out .entry)) .answer) ⌝ }
+    ensures { λ _. ⌜ lentOf (tableOf (now (ids .exit)) (now (tats .exit)) (now (newest .exit))) (now (out .exit))
+        ≡ transcribed (now (text .entry))
+        (tableOf (now (ids .entry)) (now (tats .entry)) (now (newest .entry))) (now (out .entry)) .left ⌝ }
 {
-    let transcribed = whole::transcribe(text, ids, tats, out);
+    let transcribed = whole::transcribe(text, ids, tats, newest, out);
     *result = two(transcribed);
 }

@@ -15,16 +15,17 @@ pub extern "C" fn railcadence_token_bucket_acquire(
     ids: &mut [u32],
     levels: &mut [u64],
     lasts: &mut [u64],
+    newest: &mut u64,
     moment: u64,
     subscriber: u32,
     cost: u32,
     out: &mut [u64; 5],
 )
     ensures { λ _. ⌜ now (out .exit) ≡ five (acquire (requestOf (planOf limit period burst) moment subscriber cost)
-        (tableOf (now (ids .entry)) (now (levels .entry)) (now (lasts .entry))) .answer) ⌝ }
-    ensures { λ _. ⌜ tableOf (now (ids .exit)) (now (levels .exit)) (now (lasts .exit))
+        (tableOf (now (ids .entry)) (now (levels .entry)) (now (lasts .entry)) (now (newest .entry))) .answer) ⌝ }
+    ensures { λ _. ⌜ tableOf (now (ids .exit)) (now (levels .exit)) (now (lasts .exit)) (now (newest .exit))
         ≡ acquire (requestOf (planOf limit period burst) moment subscriber cost)
-        (tableOf (now (ids .entry)) (now (levels .entry)) (now (lasts .entry))) .after ⌝ }
+        (tableOf (now (ids .entry)) (now (levels .entry)) (now (lasts .entry)) (now (newest .entry))) .after ⌝ }
 {
     let plan = Plan {
         limit,
@@ -32,8 +33,8 @@ pub extern "C" fn railcadence_token_bucket_acquire(
         burst,
     };
     let at = Millis(moment);
-    let answer = table_token_bucket::acquire(plan, ids, levels, lasts, at, subscriber, cost);
-    *out = c_answer::five(answer.to_numbers());
+    let told = table_token_bucket::acquire(plan, ids, levels, lasts, newest, at, subscriber, cost);
+    *out = c_answer::five(told.to_numbers());
 }
 
 // look
@@ -45,12 +46,13 @@ pub extern "C" fn railcadence_token_bucket_peek(
     ids: &[u32],
     levels: &[u64],
     lasts: &[u64],
+    newest: &u64,
     moment: u64,
     subscriber: u32,
     out: &mut [u64; 5],
 )
     ensures { λ _. ⌜ now (out .exit) ≡ five (peek (queryOf (planOf limit period burst) moment subscriber)
-        (tableOf (now (ids .entry)) (now (levels .entry)) (now (lasts .entry))) .answer) ⌝ }
+        (tableOf (now (ids .entry)) (now (levels .entry)) (now (lasts .entry)) (now (newest .entry))) .answer) ⌝ }
 {
     let plan = Plan {
         limit,
@@ -58,8 +60,8 @@ pub extern "C" fn railcadence_token_bucket_peek(
         burst,
     };
     let at = Millis(moment);
-    let answer = table_token_bucket::peek(plan, ids, levels, lasts, at, subscriber);
-    *out = c_answer::five(answer.to_numbers());
+    let told = table_token_bucket::peek(plan, ids, levels, lasts, newest, at, subscriber);
+    *out = c_answer::five(told.to_numbers());
 }
 
 // clear
@@ -68,12 +70,14 @@ pub extern "C" fn railcadence_token_bucket_clear(
     ids: &mut [u32],
     levels: &mut [u64],
     lasts: &mut [u64],
+    newest: &mut u64,
     out: &mut [u64; 5],
 )
-    ensures { λ _. ⌜ now (out .exit) ≡ five (clear (tableOf (now (ids .entry)) (now (levels .entry)) (now (lasts .entry))) .answer) ⌝ }
-    ensures { λ _. ⌜ tableOf (now (ids .exit)) (now (levels .exit)) (now (lasts .exit)) ≡ clear
-        (tableOf (now (ids .entry)) (now (levels .entry)) (now (lasts .entry))) .after ⌝ }
+    ensures { λ _. ⌜ now (out .exit) ≡ five (clear
+        (tableOf (now (ids .entry)) (now (levels .entry)) (now (lasts .entry)) (now (newest .entry))) .answer) ⌝ }
+    ensures { λ _. ⌜ tableOf (now (ids .exit)) (now (levels .exit)) (now (lasts .exit)) (now (newest .exit)) ≡ clear
+        (tableOf (now (ids .entry)) (now (levels .entry)) (now (lasts .entry)) (now (newest .entry))) .after ⌝ }
 {
-    let cleared = table_token_bucket::clear(ids, levels, lasts);
+    let cleared = table_token_bucket::clear(ids, levels, lasts, newest);
     *out = c_answer::five(cleared.to_numbers());
 }

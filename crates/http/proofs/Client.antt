@@ -19,7 +19,7 @@ use Rattle.table.specs.Request.{Query, Request}
 use Rattle.table.specs.Rule.{ruleOf}
 use Rattle.table.specs.Slots.{Columns}
 use Rattle.table.specs.Calls.{acquire, peek}
-use Rattle.table.proofs.Checks.{bad-plan, bad-table, late-moment, no-subscriber}
+use Rattle.table.proofs.Checks.{bad-plan, bad-table, late-moment, early-moment, no-subscriber}
 use Rattle.law_calls.proofs.Numbers.{Ground, throttled, admitted, admitted-new, grounds}
 use Rattle.table.proofs.Outcomes.{waits, admits, admits-new}
 use Rattle.law_calls.proofs.Peek.{peek-own, peek-unknown}
@@ -88,7 +88,8 @@ module _ {C P R : Type 0} {A : Account P R} (L : Balanced A) (K : Columns C R) (
   never-8 (stopped (bad-plan a)) = refl
   never-8 (stopped (bad-table a b)) = refl
   never-8 (stopped (late-moment a b m)) = refl
-  never-8 (stopped (no-subscriber a b m s)) = refl
+  never-8 (stopped (early-moment a b m e)) = refl
+  never-8 (stopped (no-subscriber a b m e s)) = refl
   never-8 (corrupt-record a i o s) = refl
   never-8 (known a i o s) = refl
   never-8 (unknown a u) = refl

@@ -16,7 +16,7 @@ use Rattle.table.specs.Rule.{Rule}
 use Rattle.table.specs.Slots.{Columns}
 use Rattle.table.specs.Calls.{Step, slotFor, acquire, gate, toll}
 use Rattle.table.proofs.Checks.{Asked, Payable, Stopped, stops, stops-not-0, asked-or-stopped, asks, query-first, number-5, number-6}
-use Rattle.table.proofs.Outcomes.{refused, full, own-answer, new-answer}
+use Rattle.table.proofs.Outcomes.{stays, refused, full, own-answer, new-answer}
 use Rattle.table.proofs.Placing.{Own, Unknown, Vacant, Full, Placed, in-own, in-free, nowhere, placed}
 
 -- the verdict on a record
@@ -42,24 +42,26 @@ module _ {C P R : Type 0} (U : Rule P R) (K : Columns C R) (r : Request P) (c : 
       acquire U K r c .answer .number ≡ n
   numbered v e n = ap (λ (x : Numbers). x .number) e ∙ answered-number (r .query .subscriber) v ∙ n
 
-  checked : {n : ℕ} → requestCheck (toll U K r c) ≡ n → eqb n 0 ≡ false → acquire U K r c .answer .number ≡ n
-  checked e h =
-      numbered (bare (requestCheck (toll U K r c))) (ap (λ (s : Step C). s .answer) (refused U K r c (ap (λ (n : ℕ). eqb n 0) e ∙ h)))
-      (bare-number (requestCheck (toll U K r c)) ∙ e)
+  -- what a check that applies answers and leaves
+  checked : {n : ℕ} → requestCheck (toll U K r c) ≡ n → eqb n 0 ≡ false → acquire U K r c ≡ stays r c (bare n)
+  checked e h = refused U K r c (ap (λ (n : ℕ). eqb n 0) e ∙ h) ∙ ap (λ (n : ℕ). stays r c (bare n)) e
 
-  queried : {n : ℕ} → Stopped (gate U K (r .query) c) n → acquire U K r c .answer .number ≡ n
-  queried s =
+  pub stays-stopped : {n : ℕ} → Stopped (gate U K (r .query) c) n → acquire U K r c ≡ stays r c (bare n)
+  stays-stopped s =
       let number = stops (gate U K (r .query) c) s in
       let some = stops-not-0 (gate U K (r .query) c) s in
       checked (query-first (toll U K r c) (ap (λ (n : ℕ). eqb n 0) number ∙ some) ∙ number) some
 
+  bare-of : {n : ℕ} → acquire U K r c ≡ stays r c (bare n) → acquire U K r c .answer .number ≡ n
+  bare-of {n} e = numbered (bare n) (ap (λ (s : Step C). s .answer) e) (bare-number n)
+
   pub causes : {n : ℕ} → Cause n → acquire U K r c .answer .number ≡ n
-  causes (stopped s) = queried s
-  causes (zero-cost a z) = checked (number-5 (toll U K r c) (asks (gate U K (r .query) c) a) z) refl
-  causes (cost-above-most a z b) = checked (number-6 (toll U K r c) (asks (gate U K (r .query) c) a) z b) refl
+  causes (stopped s) = bare-of (stays-stopped s)
+  causes (zero-cost a z) = bare-of (checked (number-5 (toll U K r c) (asks (gate U K (r .query) c) a) z) refl)
+  causes (cost-above-most a z b) = bare-of (checked (number-6 (toll U K r c) (asks (gate U K (r .query) c) a) z b) refl)
   causes (on-own p i o e) = numbered _ (own-answer U K r c i p o) e
   causes (on-fresh p i u v e) = numbered _ (new-answer U K r c i p u v) e
-  causes (table-full p u f) = numbered _ (ap (λ (s : Step C). s .answer) (full U K r c p u f)) (bare-number 9)
+  causes (table-full p u f) = bare-of (full U K r c p u f)
 
   -- there is always a cause
   in-slot : Payable (toll U K r c) → Placed U K (r .query) c (slotFor U K (r .query) c) → (n : ℕ) × Cause n

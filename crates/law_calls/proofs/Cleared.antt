@@ -1,13 +1,14 @@
--- A clear that answers 0 leaves a table in which any cost up to the burst is admitted, into slot 0.
+-- A clear that answers 0 leaves a table in which any cost up to the burst is admitted at any moment, into slot 0.
 -- Assumes nothing.
 use mathlib.Core.Path.{_≡_, refl, sym, ap, subst, _∙_}
 use mathlib.Core.Bool.{Bool, true, false}
 use mathlib.Core.List.{List}
 use Prim.Native.Nat.{ℕ, _<_}
 use native.Mathlib.Omega.{arith}
-use lib.Dec.{eqb}
+use lib.Dec.{eqb, ltb}
 use lib.ListN.{length, getD, getD-replicate}
-use borrow.Author.Tests.{eqb-false}
+use borrow.Author.Tests.{eqb-false, le-ltb}
+use Rattle.ticks.specs.Grains.{onClock}
 use Rattle.rate.specs.Decision.{bare}
 use Rattle.rate.specs.Account.{Account}
 use Rattle.rate.proofs.Answers.{answered-number, bare-number, admitted-number}
@@ -41,6 +42,10 @@ module _ {C R : Type 0} (K : Columns C R) (c : C) where
   pub unfit-kept : slotsOk (K .slots c) ≡ false → clear K c .after ≡ c
   unfit-kept e = ap (λ (s : Step C). s .after) (clear-unfit K c e)
 
+  -- so the newest moment is 0
+  pub cleared-newest : Stored K → clear K c .answer .number ≡ 0 → K .newest (clear K c .after) ≡ 0
+  cleared-newest S n = ap (λ (d : C). K .newest d) (cleared-after n) ∙ S .newest-zeros c
+
   module _ (S : Stored K) (table : slotsOk (K .slots c) ≡ true) where
     -- every slot of it is empty
     pub zeros-empty : (j : ℕ) → j < K .slots c → getD (K .ids (K .zeros c)) j 0 ≡ 0
@@ -62,19 +67,33 @@ module _ {C R : Type 0} (K : Columns C R) (c : C) where
             first = λ j l. absurd (omega arith);
           }
 
-pub cleared-admits :
-    {C P R : Type 0} {A : Account P R} → Balanced A → (K : Columns C R) → Stored K → (c : C) (r : Request P) →
-    clear K c .answer .number ≡ 0 → Payable (toll (ruleOf A) K r (clear K c .after)) →
-    acquire (ruleOf A) K r (clear K c .after) ≡ writes K r (clear K c .after) (admittedAt A r (freshAt A r)) 0 (spentAt A r (freshAt A r))
-cleared-admits {C = C} {A = A} L K S c r n p =
-    let table = cleared-table K c n in
-    let p = subst (λ (d : C). Payable (toll (ruleOf A) K r d)) (cleared-after K c n) p in
-    rw (cleared-after K c n) (admits-new L K r (K .zeros c) p 0 (zeros-unknown K c S table (ruleOf A) r p) (zeros-vacant K c S table (ruleOf A) r p))
+module _ {C P R : Type 0} {A : Account P R} (L : Balanced A) (K : Columns C R) (S : Stored K) (c : C) (r : Request P) where
+  pub cleared-admits :
+      clear K c .answer .number ≡ 0 → Payable (toll (ruleOf A) K r (clear K c .after)) →
+      acquire (ruleOf A) K r (clear K c .after) ≡ writes K r (clear K c .after) (admittedAt A r (freshAt A r)) 0 (spentAt A r (freshAt A r))
+  cleared-admits n p =
+      let table = cleared-table K c n in
+      let p = subst (λ (d : C). Payable (toll (ruleOf A) K r d)) (cleared-after K c n) p in
+      rw (cleared-after K c n) (admits-new L K r (K .zeros c) p 0 (zeros-unknown K c S table (ruleOf A) r p) (zeros-vacant K c S table (ruleOf A) r p))
 
-pub cleared-number :
-    {C P R : Type 0} {A : Account P R} → Balanced A → (K : Columns C R) → Stored K → (c : C) (r : Request P) →
-    clear K c .answer .number ≡ 0 → Payable (toll (ruleOf A) K r (clear K c .after)) → acquire (ruleOf A) K r (clear K c .after) .answer .number ≡ 0
-cleared-number {A = A} L K S c r n p =
-    ap (λ (s : Step _). s .answer .number) (cleared-admits L K S c r n p)
-    ∙ answered-number (r .query .subscriber) (admittedAt A r (freshAt A r))
-    ∙ admitted-number (A .plan (r .query .setting)) (r .query .moment) (owedAt A r (freshAt A r)) (r .cost)
+  pub cleared-number :
+      clear K c .answer .number ≡ 0 → A .ok (r .query .setting) ≡ true → onClock (r .query .moment) ≡ true →
+      eqb (r .query .subscriber) 0 ≡ false → eqb (r .cost) 0 ≡ false → ltb (A .plan (r .query .setting) .burst) (r .cost) ≡ false →
+      acquire (ruleOf A) K r (clear K c .after) .answer .number ≡ 0
+  cleared-number n setting moment subscriber cost burst =
+      let slots = ap (λ (d : C). K .slots d) (cleared-after K c n) ∙ S .slots-zeros c in
+      let payable : Payable (toll (ruleOf A) K r (clear K c .after)) =
+      record {
+        asked = record {
+          plan = setting;
+          table = ap (λ (k : ℕ). slotsOk k) slots ∙ cleared-table K c n;
+          moment = moment;
+          newest = le-ltb (r .query .moment) (K .newest (clear K c .after)) (omega (arith, cleared-newest K c S n));
+          subscriber = subscriber;
+        };
+        cost = cost;
+        burst = burst;
+      } in
+      ap (λ (s : Step C). s .answer .number) (cleared-admits n payable)
+      ∙ answered-number (r .query .subscriber) (admittedAt A r (freshAt A r))
+      ∙ admitted-number (A .plan (r .query .setting)) (r .query .moment) (owedAt A r (freshAt A r)) (r .cost)

@@ -1,10 +1,11 @@
 -- The laws of the calls, lowest first; `Laws` gathers them.
 pub mod Causes
 pub mod Numbers
-pub mod Wait
 pub mod Cleared
 pub mod Peek
 pub mod PeekCauses
 pub mod PeekNumbers
+pub mod Newest
+pub mod Wait
 pub mod Reset
 pub mod Laws

@@ -76,11 +76,11 @@ module _ {C P R : Type 0} {A : Account P R} (L : Balanced A) (K : Columns C R) (
 -- a slot that the subscriber was put into, with none below it that carries its number, is its own
 pub put-own :
     {C P R : Type 0} {K : Columns C R} → Stored K → (q : Query P) (c : C) (i : ℕ) (held : R) → i < K .slots c →
-    NoneBelow (carries (K .ids c) (q .subscriber)) i → Own K q (K .put c i (q .subscriber) held) i
+    NoneBelow (carries (K .ids c) (q .subscriber)) i → Own K q (K .put c i (q .subscriber) (q .moment) held) i
 put-own {K = K} S q c i held within first =
-    let ids = S .ids-put c i (q .subscriber) held in
+    let ids = S .ids-put c i (q .subscriber) (q .moment) held in
     record {
-      within = omega (arith, S .slots-put c i (q .subscriber) held);
+      within = omega (arith, S .slots-put c i (q .subscriber) (q .moment) held);
       passes =
           carries-own _ _ _ (ap (λ (l : List ℕ). getD l i 0) ids ∙ getD-set-same (K .ids c) i (q .subscriber) 0 (omega (arith, S .ids-length c (omega arith))));
       first = λ j l.
@@ -96,15 +96,18 @@ module _ {C P R : Type 0} {A : Account P R} (L : Balanced A) (K : Columns C R) (
       peek (ruleOf A) K (r .query) (acquire (ruleOf A) K r c .after) .answer ≡ acquire (ruleOf A) K r c .answer
   shows h i p within first a e =
       rw e
-      (peek-own (ruleOf A) K (r .query) (K .put c i (r .query .subscriber) (spentAt A r h)) i
+      (peek-own (ruleOf A) K (r .query) (K .put c i (r .query .subscriber) (r .query .moment) (spentAt A r h)) i
       (record {
         plan = p .asked .plan;
-        table = ap (λ (n : ℕ). slotsOk n) (S .slots-put c i (r .query .subscriber) (spentAt A r h)) ∙ p .asked .table;
+        table = ap (λ (n : ℕ). slotsOk n) (S .slots-put c i (r .query .subscriber) (r .query .moment) (spentAt A r h)) ∙ p .asked .table;
         moment = p .asked .moment;
+        newest =
+            le-ltb (r .query .moment) (K .newest (K .put c i (r .query .subscriber) (r .query .moment) (spentAt A r h)))
+            (omega (arith, S .newest-put c i (r .query .subscriber) (r .query .moment) (spentAt A r h)));
         subscriber = p .asked .subscriber;
       })
       (put-own S (r .query) c i (spentAt A r h) within first)
-      ∙ ap (λ (x : R). answered (r .query .subscriber) (report A (r .query .setting) (r .query .moment) x)) (S .row-same c i (r .query .subscriber) (spentAt A r h) within)
+      ∙ ap (λ (x : R). answered (r .query .subscriber) (report A (r .query .setting) (r .query .moment) x)) (S .row-same c i (r .query .subscriber) (r .query .moment) (spentAt A r h) within)
       ∙ ap (λ (v : Verdict). answered (r .query .subscriber) v) (look-after L (r .query .setting) (r .query .moment) h (r .cost) (p .asked .plan) a))
 
   shows-by : Ground A K r c 0 → peek (ruleOf A) K (r .query) (acquire (ruleOf A) K r c .after) .answer ≡ acquire (ruleOf A) K r c .answer

@@ -35,12 +35,15 @@ module _ {C P R : Type 0} (U : Rule P R) (K : Columns C R) (q : Query P) (c : C)
   numbered : (v : Verdict) {n : ℕ} → peek U K q c .answer ≡ answered (q .subscriber) v → v .number ≡ n → peek U K q c .answer .number ≡ n
   numbered v e n = ap (λ (x : Numbers). x .number) e ∙ answered-number (q .subscriber) v ∙ n
 
-  pub peek-causes : {n : ℕ} → PeekCause n → peek U K q c .answer .number ≡ n
-  peek-causes (stopped s) =
+  -- what a check that applies answers
+  pub peek-stopped : {n : ℕ} → Stopped (gate U K q c) n → peek U K q c .answer ≡ answered (q .subscriber) (bare n)
+  peek-stopped s =
       let number = stops (gate U K q c) s in
       let refusal = peek-refused U K c q (ap (λ (n : ℕ). eqb n 0) number ∙ stops-not-0 (gate U K q c) s) in
-      numbered (bare (queryCheck (gate U K q c))) (peek-answers U K c q ∙ ap (λ (v : Verdict). answered (q .subscriber) v) refusal)
-      (bare-number (queryCheck (gate U K q c)) ∙ number)
+      peek-answers U K c q ∙ ap (λ (v : Verdict). answered (q .subscriber) v) (refusal ∙ ap bare number)
+
+  pub peek-causes : {n : ℕ} → PeekCause n → peek U K q c .answer .number ≡ n
+  peek-causes (stopped s) = numbered _ (peek-stopped s) (bare-number _)
   peek-causes (on-own a i o e) = numbered _ (peek-own U K q c i a o) e
   peek-causes (on-fresh a u e) = numbered _ (peek-fresh U K q c a u) e
 

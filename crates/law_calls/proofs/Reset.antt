@@ -25,6 +25,7 @@ use Rattle.table.specs.Slots.{Columns, carries, own}
 use Rattle.table.specs.Calls.{Step, held, acquire, peek, gate, toll}
 use Rattle.table.proofs.Cases.{held-own, held-fresh}
 use Rattle.table.proofs.Checks.{Asked, Payable}
+use Rattle.law_calls.proofs.Newest.{asked-later}
 use Rattle.law_calls.proofs.Numbers.{Ground, throttled, admitted, decides, grounds}
 use Rattle.law_calls.proofs.Peek.{SameReport, peek-own, peek-unknown, peek-after-admission, peek-of-denied}
 use Rattle.law_calls.proofs.PeekNumbers.{PeekGround, known, unknown, peek-grounds}
@@ -66,7 +67,7 @@ module _ {C P R : Type 0} {A : Account P R} (L : Balanced A) (K : Columns C R) (
   payable-burst : (m : ℕ) → q .moment ≤ m → onClock m ≡ true → Payable (toll (ruleOf A) K (wholeBurst A q m) c)
   payable-burst m from t =
       record {
-        asked = record { plan = a .plan; table = a .table; moment = t; subscriber = a .subscriber };
+        asked = asked-later (ruleOf A) K q c m a from t;
         cost = ne-eqb (A .plan (q .setting) .burst) 0 (λ z. let some = within-limits (A .plan (q .setting)) (L .ok-plan (q .setting) (a .plan)) .burst-least in omega arith);
         burst = le-ltb (A .plan (q .setting) .burst) (A .plan (q .setting) .burst) (le-refl (A .plan (q .setting) .burst));
       }
@@ -171,7 +172,7 @@ module _ {C P R : Type 0} {A : Account P R} (L : Balanced A) (K : Columns C R) (
       let seen = peek-after-admission L K S r c e in
       let taken = admission-writes-one (ruleOf A) K r c e in
       let slots =
-      ap (λ (d : C). K .slots d) (taken .after) ∙ S .slots-put c (taken .place) (r .query .subscriber) (taken .held) in
+      ap (λ (d : C). K .slots d) (taken .after) ∙ S .slots-put c (taken .place) (r .query .subscriber) (r .query .moment) (taken .held) in
       let within = taken-within (ruleOf A) K (r .query) c (taken .takes) in
       subst (ResetMoment A K (r .query) (acquire (ruleOf A) K r c .after)) (ap (λ (x : Numbers). x .reset) seen)
       (peek-held-reset L K (r .query) (acquire (ruleOf A) K r c .after) (taken .place) (omega (arith, slots, within))

@@ -19,6 +19,7 @@ use Rattle.table.specs.Rule.{ruleOf}
 use Rattle.table.specs.Slots.{Columns}
 use Rattle.table.specs.Calls.{Step, acquire, gate, toll}
 use Rattle.table.proofs.Checks.{Payable}
+use Rattle.law_calls.proofs.Newest.{asked-later}
 use Rattle.law_calls.proofs.Numbers.{Ground, throttled, admitted, decides, grounds}
 use Rattle.table.proofs.Outcomes.{waits, faultAt, admitsAt, owedAt, throttledAt}
 use Rattle.table.proofs.Placing.{Own}
@@ -49,7 +50,7 @@ module _ {C P R : Type 0} {A : Account P R} (L : Balanced A) (K : Columns C R) (
     payable-later : (k : ℕ) → onClock (r .query .moment + k) ≡ true → Payable (toll (ruleOf A) K (later k r) c)
     payable-later k t =
         record {
-          asked = record { plan = p .asked .plan; table = p .asked .table; moment = t; subscriber = p .asked .subscriber };
+          asked = asked-later (ruleOf A) K (r .query) c (r .query .moment + k) (p .asked) (omega arith) t;
           cost = p .cost;
           burst = p .burst;
         }

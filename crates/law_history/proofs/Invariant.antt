@@ -1,6 +1,6 @@
--- How a table and a history belong together: at some moment each occupied slot is sound and owes what the history says,
--- no subscriber has two slots, and whoever has none owes nothing. It stays so as time passes, it holds of a cleared table
--- and the empty history, and an admission keeps it.
+-- How a table and a history belong together: both have the same newest moment; and at some moment each occupied slot is sound
+-- and owes what the history says, no subscriber has two slots, and whoever has none owes nothing. It stays so as time passes,
+-- it holds of a cleared table and the empty history, and an admission keeps it.
 -- Assumes nothing.
 use mathlib.Core.Path.{_≡_, refl, sym, ap, subst, _∙_}
 use mathlib.Core.Bool.{Bool, true, false, false≢true}
@@ -20,10 +20,10 @@ use Rattle.table.specs.Slots.{Columns}
 use Rattle.table.proofs.Checks.{slots-least}
 use Rattle.law_calls.proofs.Cleared.{zeros-empty}
 use Rattle.table.proofs.Stored.{Stored}
-use Rattle.law_history.specs.History.{Entry, member, owed}
+use Rattle.law_history.specs.History.{Entry, newest, member, owed}
 use Rattle.law_history.proofs.Columns.{somebody, set-apart, gone-elsewhere, gone-other, one-place, zeros-apart}
 use Rattle.law_history.proofs.Counting.{Apart, member-place, place-member}
-use Rattle.law_history.proofs.Owing.{owed-drains, owed-spends, owed-others, owed-none}
+use Rattle.law_history.proofs.Owing.{owed-drains, owed-spends, owed-others, owed-none, newest-none, newest-end}
 
 pub nobody-is-0 : (x : ℕ) → somebody x ≡ false → x ≡ 0
 unfolding somebody
@@ -41,6 +41,7 @@ pub record Related
     {C R : Type 0} (E : Engine R) (K : Columns C R) (p : Plan) (n at : ℕ) (c : C) (h : List Entry) : Type 0 where
   pub slots : K .slots c ≡ n
   pub table : slotsOk n ≡ true
+  pub latest : K .newest c ≡ newest h
   pub apart : Apart somebody (K .ids c)
   pub sound : (i : ℕ) → i < n → somebody (idAt K c i) ≡ true → E .sound p at (K .row c i) ≡ true
   pub agree : (i : ℕ) → i < n → somebody (idAt K c i) ≡ true → E .backlog p at (K .row c i) ≡ owed p at (idAt K c i) h
@@ -54,6 +55,7 @@ module _ {C R : Type 0} {E : Engine R} (L : Lawful E) (K : Columns C R) (S : Sto
       record {
         slots = v .slots;
         table = v .table;
+        latest = v .latest;
         apart = v .apart;
         sound = λ i w s. L .stays-sound p l k (K .row c i) le (v .sound i w s);
         agree = λ i w s.
@@ -74,6 +76,7 @@ module _ {C R : Type 0} {E : Engine R} (L : Lawful E) (K : Columns C R) (S : Sto
       record {
         slots = S .slots-zeros c ∙ s;
         table = t;
+        latest = S .newest-zeros c ∙ sym newest-none;
         apart = subst (λ (l : List ℕ). Apart somebody l) (sym (S .ids-zeros c)) (zeros-apart (length (K .ids c)));
         sound = λ i w o. absurd (empty i w o);
         agree = λ i w o. absurd (empty i w o);
@@ -97,18 +100,18 @@ module _ {C R : Type 0} {E : Engine R} (L : Lawful E) (K : Columns C R) (S : Sto
       entry = record { subscriber = who; moment = at; cost = cost }
 
       abbrev put : C
-      put = K .put c i who (E .spend p at held cost)
+      put = K .put c i who at (E .spend p at held cost)
 
       in-ids : i < length (K .ids c)
       in-ids = omega (arith, ids-length)
 
       id-same : idAt K put i ≡ who
       id-same =
-          ap (λ (l : List ℕ). getD l i 0) (S .ids-put c i who (E .spend p at held cost)) ∙ getD-set-same (K .ids c) i who 0 in-ids
+          ap (λ (l : List ℕ). getD l i 0) (S .ids-put c i who at (E .spend p at held cost)) ∙ getD-set-same (K .ids c) i who 0 in-ids
 
       id-other : (j : ℕ) → (j ≡ i → ⊥) → idAt K put j ≡ idAt K c j
       id-other j o =
-          ap (λ (l : List ℕ). getD l j 0) (S .ids-put c i who (E .spend p at held cost)) ∙ getD-set-other (K .ids c) i j who 0 o
+          ap (λ (l : List ℕ). getD l j 0) (S .ids-put c i who at (E .spend p at held cost)) ∙ getD-set-other (K .ids c) i j who 0 o
 
       apart-set : Free who i → Apart somebody (set (K .ids c) i who)
       apart-set (own e) =
@@ -143,32 +146,33 @@ module _ {C R : Type 0} {E : Engine R} (L : Lawful E) (K : Columns C R) (S : Sto
           by true t = let s = member-place x (K .ids c) t in here (s .0) (s .1 .0) (s .1 .1) (ℕ-discrete (s .0) i)
           by false t = v .strangers x t
 
-      -- an admission keeps it
+      -- an admission that is not before the newest moment keeps it
       pub admission :
-          E .admits p at held cost ≡ true → E .backlog p at held ≡ owed p at who h →
-          Related E K p n at (K .put c i who (E .spend p at held cost)) (h ++ (record { subscriber = who; moment = at; cost = cost } ∷ []))
-      admission a b =
+          newest h ≤ at → E .admits p at held cost ≡ true → E .backlog p at held ≡ owed p at who h →
+          Related E K p n at (K .put c i who at (E .spend p at held cost)) (h ++ (record { subscriber = who; moment = at; cost = cost } ∷ []))
+      admission late a b =
           record {
-            slots = S .slots-put c i who (E .spend p at held cost) ∙ v .slots;
+            slots = S .slots-put c i who at (E .spend p at held cost) ∙ v .slots;
             table = v .table;
-            apart = subst (λ (l : List ℕ). Apart somebody l) (sym (S .ids-put c i who (E .spend p at held cost))) (apart-set f);
+            latest = S .newest-put c i who at (E .spend p at held cost) ∙ sym (newest-end h entry late);
+            apart = subst (λ (l : List ℕ). Apart somebody l) (sym (S .ids-put c i who at (E .spend p at held cost))) (apart-set f);
             sound = λ j k o. sound-at j k o (ℕ-discrete j i);
             agree = λ j k o. agree-at j k o (ℕ-discrete j i);
             nobody = owed-others p at h entry 0 (somebody-not-0 who real) ∙ v .nobody;
             strangers = λ x m.
-                let absent = ap (λ (l : List ℕ). member x l) (sym (S .ids-put c i who (E .spend p at held cost))) ∙ m in
+                let absent = ap (λ (l : List ℕ). member x l) (sym (S .ids-put c i who at (E .spend p at held cost))) ∙ m in
                 let other = gone-other x who (K .ids c) i absent in-ids in
                 owed-others p at h entry x other ∙ gone x other absent;
           }
         where
           here : K .row put i ≡ E .spend p at held cost
-          here = S .row-same c i who (E .spend p at held cost) (omega (arith, v .slots))
+          here = S .row-same c i who at (E .spend p at held cost) (omega (arith, v .slots))
 
           sound-at : (j : ℕ) → j < n → somebody (idAt K put j) ≡ true → Dec (j ≡ i) → E .sound p at (K .row put j) ≡ true
           sound-at j k o (yes e) =
               ap (λ (x : ℕ). E .sound p at (K .row put x)) e ∙ ap (λ (x : R). E .sound p at x) here ∙ L .spends-sound p at held cost a
           sound-at j k o (no d) =
-              ap (λ (x : R). E .sound p at x) (S .row-other c i j who (E .spend p at held cost) d)
+              ap (λ (x : R). E .sound p at x) (S .row-other c i j who at (E .spend p at held cost) d)
               ∙ v .sound j k (ap (λ (x : ℕ). somebody x) (sym (id-other j d)) ∙ o)
 
           own-agrees : E .backlog p at (K .row put i) ≡ owed p at (idAt K put i) (h ++ (entry ∷ []))
@@ -182,6 +186,6 @@ module _ {C R : Type 0} {E : Engine R} (L : Lawful E) (K : Columns C R) (S : Sto
           agree-at j k o (yes e) =
               subst (λ (x : ℕ). E .backlog p at (K .row put x) ≡ owed p at (idAt K put x) (h ++ (entry ∷ []))) (sym e) own-agrees
           agree-at j k o (no d) =
-              ap (λ (x : R). E .backlog p at x) (S .row-other c i j who (E .spend p at held cost) d)
+              ap (λ (x : R). E .backlog p at x) (S .row-other c i j who at (E .spend p at held cost) d)
               ∙ v .agree j k (ap (λ (x : ℕ). somebody x) (sym (id-other j d)) ∙ o)
               ∙ sym (ap (λ (x : ℕ). owed p at x (h ++ (entry ∷ []))) (id-other j d) ∙ owed-others p at h entry (idAt K c j) (not-who f j k d))

@@ -8,3 +8,5 @@ pub mod Invariant
 pub mod Full
 pub mod Simulation
 pub mod Demand3
+pub mod NeverCorrupt
+pub mod Worked

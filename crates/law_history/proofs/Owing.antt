@@ -1,5 +1,5 @@
 -- What the history owes drains and grows as an engine's backlog does: by N a millisecond down to 0, and by P×cost at an
--- admission.
+-- admission. And its newest moment is that of the last admission, as a table's is.
 -- Assumes nothing.
 use mathlib.Core.Path.{_≡_, refl, sym, ap, subst, _∙_}
 use mathlib.Core.Bool.{Bool, true, false, cond, false≢true}
@@ -11,7 +11,7 @@ use borrow.Author.Tests.{eq-eqb, ne-eqb, eqb-true}
 use Rattle.ticks.specs.declared.plan.Plan.{Plan}
 use Rattle.ticks.specs.Grains.{ticksIn, price}
 use Rattle.ticks.proofs.Products.{ticks-split, price-add}
-use Rattle.law_history.specs.History.{Entry, callsOf, costs, debt, owed, member, names}
+use Rattle.law_history.specs.History.{Entry, newest, callsOf, costs, debt, owed, member, names}
 use Rattle.law_history.proofs.Counting.{member-here, member-tail}
 
 drains : (p : Plan) (l m : ℕ) → l ≤ m → (es : List Entry) → debt p m es ≡ debt p l es - ticksIn p (m - l)
@@ -97,3 +97,15 @@ unnamed who (e ∷ rest) n = by (member (e .subscriber) (names rest)) refl (eqb 
 pub owed-unnamed : (p : Plan) (s who : ℕ) (h : List Entry) → member who (names h) ≡ false → owed p s who h ≡ 0
 unfolding owed debt
 owed-unnamed p s who h n = ap (λ (l : List Entry). debt p s l) (unnamed who h n)
+
+-- an admission that is not before the newest moment is the newest
+pub newest-end : (h : List Entry) (e : Entry) → newest h ≤ e .moment → newest (h ++ (e ∷ [])) ≡ e .moment
+unfolding newest
+newest-end [] e k = omega arith
+newest-end (x ∷ rest) e k =
+    let most : newest rest ≤ e .moment = omega arith in
+    omega (arith, newest-end rest e most)
+
+pub newest-none : newest [] ≡ 0
+unfolding newest
+newest-none = refl

@@ -10,7 +10,7 @@ use Rattle.rate.specs.Account.{alone}
 use Rattle.table.specs.Rule.{ruleOf}
 use Rattle.table_gcra.specs.Table as gcra-table
 use Rattle.table_token_bucket.specs.Table as token-bucket-table
-use Rattle.law_history.specs.Run.{Call, engine, history, answers, Rising}
+use Rattle.law_history.specs.Run.{Call, engine, history, answers}
 
 -- any columns of equally many slots, on each of which a clear has just answered 0
 pub record Start (slots : ℕ) (t : gcra-table.Table) (b : token-bucket-table.Table) : Type 0 where
@@ -24,8 +24,8 @@ pub record Agreement (p : Plan) (slots : ℕ) (t : gcra-table.Table) (b : token-
   pub gcra-is-history : answers (engine (ruleOf (alone gcra)) gcra-table.columns) p (gcra-table.clear t .after) run ≡ answers (history slots) p [] run
   pub token-bucket-is-history : answers (engine (ruleOf (alone tokenBucket)) token-bucket-table.columns) p (token-bucket-table.clear b .after) run ≡ answers (history slots) p [] run
 
--- under any plan, good or bad; the moments within the limit never fall between clears
+-- under any plan, good or bad, and at any moments: those that fall, and those beyond the limit, too
 abbrev pub Demand3 : Type 0
 Demand3 =
-    (p : Plan) (slots : ℕ) (t : gcra-table.Table) (b : token-bucket-table.Table) → Start slots t b → (run : List Call) → Rising 0 run →
+    (p : Plan) (slots : ℕ) (t : gcra-table.Table) (b : token-bucket-table.Table) → Start slots t b → (run : List Call) →
     Agreement p slots t b run

@@ -78,7 +78,7 @@ entryOf r = record { subscriber = r .query .subscriber; moment = r .query .momen
 abbrev pub says : Request Plan → Verdict → List Entry → Step (List Entry)
 says r v h = record { answer = answered (r .query .subscriber) v; after = h }
 
--- an ask that passes checks 1 to 6: number 9 exactly when as many others owe as there are slots; otherwise admitted exactly
+-- an ask that passes the checks: number 9 exactly when as many others owe as there are slots; otherwise admitted exactly
 -- when D + P×cost ≤ P×B, and added at the end, and 8 if not
 unfoldable pub decide : ℕ → Request Plan → List Entry → Step (List Entry)
 decide slots r h =
@@ -87,16 +87,21 @@ decide slots r h =
     (says r (admitted (r .query .setting) (r .query .moment) (callerDebt r h) (r .cost)) (h ++ (entryOf r ∷ [])))
     (says r (throttled (r .query .setting) (r .query .moment) (callerDebt r h) (r .cost)) h))
 
--- what the checks look at, on a table of so many slots
-abbrev pub gateAt : ℕ → Query Plan → Gate
-gateAt slots q = gateOf (planOk (q .setting)) slots (q .moment) (q .subscriber)
+-- the newest moment in the lists of all subscribers, 0 if all are empty (document 02, Item 6)
+unfoldable pub newest : List Entry → ℕ
+newest [] = 0
+newest (e ∷ rest) = max (e .moment) (newest rest)
 
-abbrev pub tollAt : ℕ → Request Plan → Toll
-tollAt slots r = tollOf (gateAt slots (r .query)) (r .query .setting .burst) (r .cost)
+-- what the checks look at, on a table of so many slots
+abbrev pub gateAt : ℕ → Query Plan → List Entry → Gate
+gateAt slots q h = gateOf (planOk (q .setting)) slots (newest h) (q .moment) (q .subscriber)
+
+abbrev pub tollAt : ℕ → Request Plan → List Entry → Toll
+tollAt slots r h = tollOf (gateAt slots (r .query) h) (r .query .setting .burst) (r .cost)
 
 -- ask
 unfoldable pub acquire : ℕ → Request Plan → List Entry → Step (List Entry)
-acquire slots r h = guard (λ n. says r (bare n) h) (requestCheck (tollAt slots r)) (decide slots r h)
+acquire slots r h = guard (λ n. says r (bare n) h) (requestCheck (tollAt slots r h)) (decide slots r h)
 
 -- what a look at a subscriber shows
 abbrev pub shown : Query Plan → List Entry → Verdict
@@ -104,7 +109,7 @@ shown q h = reported (q .setting) (q .moment) (owed (q .setting) (q .moment) (q 
 
 -- look
 unfoldable pub peek : ℕ → Query Plan → List Entry → Step (List Entry)
-peek slots q h = record { answer = answered (q .subscriber) (guard bare (queryCheck (gateAt slots q)) (shown q h)); after = h }
+peek slots q h = record { answer = answered (q .subscriber) (guard bare (queryCheck (gateAt slots q h)) (shown q h)); after = h }
 
 -- clear empties every list
 unfoldable pub clear : List Entry → Step (List Entry)

@@ -1,11 +1,8 @@
 -- Document 01, 'The run': any list of asks, looks and clears under one plan, each on the state as the one before left it.
-use Prim.Native.Nat.{ℕ, _≤_}
-use mathlib.Core.Path.{_≡_}
-use mathlib.Core.Bool.{true, cond}
+use Prim.Native.Nat.{ℕ}
 use mathlib.Core.List.{List, [], _∷_}
 use Rattle.rate.specs.declared.answer.Numbers.{Numbers}
 use Rattle.ticks.specs.declared.plan.Plan.{Plan}
-use Rattle.ticks.specs.Grains.{onClock}
 use Rattle.table.specs.Request.{Query, Request, queryOf, requestOf}
 use Rattle.table.specs.Rule.{Rule}
 use Rattle.table.specs.Slots.{Columns}
@@ -43,14 +40,3 @@ step M p s clear = M .clear s
 unfoldable pub answers : {S : Type 0} → Machine S → Plan → S → List Call → List Numbers
 answers M p s [] = []
 answers M p s (c ∷ rest) = step M p s c .answer ∷ answers M p (step M p s c .after) rest
-
--- the newest moment within the limit
-unfoldable pub newest : ℕ → ℕ → ℕ
-newest from moment = cond (onClock moment) moment from
-
--- the premise: moments within the limit never fall, from the start or a clear up to the next clear
-abbrev pub Rising : ℕ → List Call → Type 0
-Rising from [] = Unit {0}
-Rising from (acquire moment subscriber cost ∷ rest) = (onClock moment ≡ true → from ≤ moment) × Rising (newest from moment) rest
-Rising from (peek moment subscriber ∷ rest) = (onClock moment ≡ true → from ≤ moment) × Rising (newest from moment) rest
-Rising from (clear ∷ rest) = Rising 0 rest

@@ -10,8 +10,8 @@ use lib.ListN.{length, length-append}
 use Rattle.text_transcript.specs.declared.stream.Session.{Session}
 use Rattle.text_session.specs.Stream.{State, said, after, ending}
 use Rattle.text_session.specs.Session.{Lent}
-use Rattle.text_transcript.specs.Running.{stateOf, started, endingOf}
-use Rattle.table_gcra.specs.Table.{tableOf}
+use Rattle.text_transcript.specs.Running.{stateOf, started, noTable, endingOf}
+use Rattle.table_gcra.specs.Table.{Table}
 use Rattle.text_protocol.specs.Reply.{header}
 use Rattle.text_session.proofs.Streamed.{said-none, after-none, said-append, after-append, streamed}
 use Rattle.text_session.proofs.LineEnds.{ending-any}
@@ -40,11 +40,11 @@ module _ (r : Input) (piece : List ℕ) (taken taken′ : ℕ) (took : Took r pi
   took-failed e = subst (λ (x : Input). Took x piece taken taken′) e took
 
 pub onwards-next :
-    (r : Answered) {s : Session} (σ : State) (piece line ids tats out : List ℕ) (sent sent′ : ℕ) →
-    Onwards r σ piece line ids tats out sent sent′ → r ≡ Next s → Advanced s σ piece line ids tats out sent sent′
+    (r : Answered) {s : Session} (σ : State) (piece line : List ℕ) (t : Table) (out : List ℕ) (sent sent′ : ℕ) →
+    Onwards r σ piece line t out sent sent′ → r ≡ Next s → Advanced s σ piece line t out sent sent′
 unfolding Onwards
-onwards-next r σ piece line ids tats out sent sent′ onwards e =
-    subst (λ (x : Answered). Onwards x σ piece line ids tats out sent sent′) e onwards
+onwards-next r σ piece line t out sent sent′ onwards e =
+    subst (λ (x : Answered). Onwards x σ piece line t out sent sent′) e onwards
 
 -- the input so far, of which each turn read a byte at least
 pub record Reached (a : Account) (turns : ℕ) (σ : State) (taken sent : ℕ) : Type 0 where
@@ -56,12 +56,12 @@ pub record Reached (a : Account) (turns : ℕ) (σ : State) (taken sent : ℕ) :
 
 pub reached-start :
     (a : Account) {turns : ℕ} {s : Session} (line : List ℕ) → tooLong ≤ turns → s ≡ started →
-    Reached a turns (stateOf s line (a .table .ids) (a .table .tats)) (a .taken) (a .sent)
+    Reached a turns (stateOf s line (a .table)) (a .taken) (a .sent)
 reached-start a line h e =
     record {
       input = [];
       turned = omega arith;
-      state-is = ap (λ (x : Session). stateOf x line (a .table .ids) (a .table .tats)) e ∙ sym (after-none (startOf a));
+      state-is = ap (λ (x : Session). stateOf x line (a .table)) e ∙ sym (after-none (startOf a));
       taken-is = counted-none (a .taken);
       sent-is = counted-as (ap (λ (l : List ℕ). length l) (sym (said-none (startOf a)))) (counted-none (a .sent));
     }
@@ -90,7 +90,7 @@ module _ {a : Account} {turns : ℕ} {σ : State} {taken sent : ℕ} (r : Reache
   module _ {taken′ : ℕ} (none : Counted taken 0 taken′) where
     stopped :
         (text : List ℕ → List ℕ) {least sent′ : ℕ} → least ≤ length (r .input) → Counted (a .sent) (length (text (r .input))) sent′ →
-        Ran least text a (accountOf (σ .table .ids) (σ .table .tats) taken′ sent′)
+        Ran least text a (accountOf (σ .table) taken′ sent′)
     stopped text h c =
         record {
           input = r .input;
@@ -102,12 +102,12 @@ module _ {a : Account} {turns : ℕ} {σ : State} {taken sent : ℕ} (r : Reache
 
     pub unended :
         {least : ℕ} → least ≤ length (r .input) →
-        Ran least (λ input. said (startOf a) input) a (accountOf (σ .table .ids) (σ .table .tats) taken′ sent)
+        Ran least (λ input. said (startOf a) input) a (accountOf (σ .table) taken′ sent)
     unended h = stopped (λ input. said (startOf a) input) h (r .sent-is)
 
     ended :
         {sent′ : ℕ} → Counted sent (length (ending σ)) sent′ →
-        Ran 0 (λ input. said (startOf a) input ++ ending (after (startOf a) input)) a (accountOf (σ .table .ids) (σ .table .tats) taken′ sent′)
+        Ran 0 (λ input. said (startOf a) input ++ ending (after (startOf a) input)) a (accountOf (σ .table) taken′ sent′)
     ended c =
         let so-far = said (startOf a) (r .input) in
         stopped (λ input. said (startOf a) input ++ ending (after (startOf a) input)) (omega arith)
@@ -118,12 +118,12 @@ module _ {a : Account} {turns : ℕ} {σ : State} {taken sent : ℕ} (r : Reache
 
 -- as `close` leaves it
 pub closed :
-    {a : Account} {turns : ℕ} (s : Session) (line : List ℕ) {ids tats : List ℕ} {taken taken′ sent : ℕ} →
-    Reached a turns (stateOf s line ids tats) taken sent → Counted taken 0 taken′ → (run : Run) (out : List ℕ) (sent′ : ℕ) →
-    Finished run (Written (endingOf s line) out sent sent′) ⊥ ⊥ → Answers run a (accountOf ids tats taken′ sent′)
+    {a : Account} {turns : ℕ} (s : Session) (line : List ℕ) {t : Table} {taken taken′ sent : ℕ} →
+    Reached a turns (stateOf s line t) taken sent → Counted taken 0 taken′ → (run : Run) (out : List ℕ) (sent′ : ℕ) →
+    Finished run (Written (endingOf s line) out sent sent′) ⊥ ⊥ → Answers run a (accountOf t taken′ sent′)
 unfolding Finished
-closed s line {ids} {tats} r none Ended out sent′ f =
-    ended r none (counted-as (ap (λ (l : List ℕ). length l) (ending-any (stateOf s line [] []) (tableOf ids tats))) (f .sent-is))
+closed s line {t} r none Ended out sent′ f =
+    ended r none (counted-as (ap (λ (l : List ℕ). length l) (ending-any (stateOf s line noTable) t)) (f .sent-is))
 closed s line r none Unended out sent′ f = absurd f
 closed s line r none TooLong out sent′ f = absurd f
 closed s line r none Unwritten out sent′ f = tt
@@ -131,7 +131,7 @@ closed s line r none Unwritten out sent′ f = tt
 -- with the header in front
 module _ (a : Account) (lent : Lent (a .table .ids) (a .table .tats)) {sent : ℕ} (h : Counted (a .sent) (length header) sent) where
   abbrev begun : Account
-  begun = accountOf (a .table .ids) (a .table .tats) (a .taken) sent
+  begun = accountOf (a .table) (a .taken) sent
 
   headed :
       {least : ℕ} {text whole : List ℕ → List ℕ} {b : Account} → ((input : List ℕ) → header ++ text input ≡ whole input) →
@@ -149,7 +149,7 @@ module _ (a : Account) (lent : Lent (a .table .ids) (a .table .tats)) {sent : �
 
   pub served : (run : Run) (b : Account) → Answers run begun b → Serves run a b
   unfolding Finished
-  served Ended b f = headed (λ input. streamed (a .table .ids) (a .table .tats) input (lent .in-ids) (lent .in-tats)) f
+  served Ended b f = headed (λ input. streamed (a .table) input lent) f
   served Unended b f = headed (λ input. refl) f
   served TooLong b f = headed (λ input. refl) f
   served Unwritten b f = tt

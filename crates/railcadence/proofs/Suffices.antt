@@ -1,7 +1,7 @@
 -- The output has room for every answer to a piece, and the buffers stay as long as they are.
 -- Assumes nothing.
 use mathlib.Core.Path.{_≡_, refl}
-use mathlib.Core.List.{List, []}
+use mathlib.Core.List.{List}
 use Prim.Native.Nat.{ℕ, _+_, _*_, _≤_}
 use native.Mathlib.Omega.{arith}
 use lib.ListN.{length}
@@ -9,7 +9,7 @@ use Rattle.text_transcript.specs.declared.stream.Session.{Session}
 use Rattle.text_session.specs.Stream.{State, said}
 use Rattle.text_protocol.specs.Reply.{mostReply}
 use Rattle.text_session.specs.Session.{Lent}
-use Rattle.text_transcript.specs.Running.{stateOf, endingOf}
+use Rattle.text_transcript.specs.Running.{stateOf, noTable, endingOf}
 use Rattle.text_session.proofs.Lengths.{said-most, ending-most, endings-most}
 
 -- what is said of some bytes fits, and what is said at the input's end
@@ -17,7 +17,7 @@ pub answers-fit : (σ : State) (bytes : List ℕ) {n room : ℕ} → n ≡ 0 + l
 answers-fit σ bytes e h = omega (arith, said-most σ bytes, endings-most bytes)
 
 pub end-fits : (s : Session) (line out : List ℕ) → mostReply ≤ length out → 0 + length (endingOf s line) ≤ length out
-end-fits s line out h = omega (arith, ending-most (stateOf s line [] []))
+end-fits s line out h = omega (arith, ending-most (stateOf s line noTable))
 
 -- buffers of the same lengths
 pub record Same (piece line ids tats out piece₀ line₀ ids₀ tats₀ out₀ : List ℕ) : Type 0 where

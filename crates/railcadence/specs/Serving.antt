@@ -3,7 +3,7 @@ use mathlib.Core.Path.{_≡_}
 use mathlib.Core.List.{List, _++_}
 use Prim.Native.Nat.{ℕ, _+_, _-_, _*_, _%_, _^_, _≤_}
 use lib.ListN.{length, take}
-use Rattle.table_gcra.specs.Table.{Table, tableOf}
+use Rattle.table_gcra.specs.Table.{Table}
 use Rattle.text_transcript.specs.declared.stream.Session.{Session}
 use Rattle.text_transcript.specs.Running.{Ready, stateOf}
 use Rattle.text_session.specs.Stream.{State, said, after, ending, start}
@@ -38,15 +38,15 @@ pub record Written (text out : List ℕ) (sent sent′ : ℕ) : Type 0 where
   pub sent-is : Counted sent (length text) sent′
 
 -- what is said of a piece is written, and the next session stands for the state that the piece leads to
-pub record Advanced (next : Session) (σ : State) (piece line ids tats out : List ℕ) (sent sent′ : ℕ) : Type 0 where
-  pub state-is : stateOf next line ids tats ≡ after σ piece
+pub record Advanced (next : Session) (σ : State) (piece line : List ℕ) (t : Table) (out : List ℕ) (sent sent′ : ℕ) : Type 0 where
+  pub state-is : stateOf next line t ≡ after σ piece
   pub written : Written (said σ piece) out sent sent′
   pub ready : Ready next line
 
 -- nothing is promised where the answers cannot be written
-unfoldable pub Onwards : Answered → State → List ℕ → List ℕ → List ℕ → List ℕ → List ℕ → ℕ → ℕ → Type 0
-Onwards (Next next) σ piece line ids tats out sent sent′ = Advanced next σ piece line ids tats out sent sent′
-Onwards Lost σ piece line ids tats out sent sent′ = Unit {0}
+unfoldable pub Onwards : Answered → State → List ℕ → List ℕ → Table → List ℕ → ℕ → ℕ → Type 0
+Onwards (Next next) σ piece line t out sent sent′ = Advanced next σ piece line t out sent sent′
+Onwards Lost σ piece line t out sent sent′ = Unit {0}
 
 -- what holds of a run that came to the input's end, of one that stopped before it, and of one that stopped since the input is
 -- too long; nothing is promised where a write failed
@@ -56,20 +56,20 @@ Finished Unended ended unended long = unended
 Finished TooLong ended unended long = long
 Finished Unwritten ended unended long = Unit {0}
 
--- what a run changes: the columns, and how many bytes were read and written
+-- what a run changes: the table, and how many bytes were read and written
 pub record Account : Type 0 where
   pub table : Table
   pub taken : ℕ
   pub sent : ℕ
 
-abbrev pub accountOf : List ℕ → List ℕ → ℕ → ℕ → Account
-accountOf ids tats taken sent = record { table = tableOf ids tats; taken = taken; sent = sent }
+abbrev pub accountOf : Table → ℕ → ℕ → Account
+accountOf t taken sent = record { table = t; taken = taken; sent = sent }
 
 -- the state before the first byte
 abbrev pub startOf : Account → State
-startOf a = start (a .table .ids) (a .table .tats)
+startOf a = start (a .table)
 
--- there is an input, not shorter than this, of as many bytes as were read, which leaves the columns as they are, and as many
+-- there is an input, not shorter than this, of as many bytes as were read, which leaves the table as it is, and as many
 -- bytes were written as this text of it has
 pub record Ran (least : ℕ) (text : List ℕ → List ℕ) (a b : Account) : Type 0 where
   pub input : List ℕ

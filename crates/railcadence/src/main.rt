@@ -15,6 +15,7 @@ fn main() {
     let mut line = buffers::line();
     let mut ids = buffers::ids();
     let mut tats = buffers::tats();
+    let mut newest = 0;
     let mut out = buffers::out();
     // how many bytes are read and written, of which `serve` makes its promise
     let mut taken = 0;
@@ -24,6 +25,7 @@ fn main() {
         &mut line,
         &mut ids,
         &mut tats,
+        &mut newest,
         &mut out,
         &mut taken,
         &mut sent,

@@ -4,6 +4,7 @@ ghost use mathlib.Core.Path.{_≡_};
 ghost use mathlib.Core.Bool.{true};
 ghost use Prim.Native.Nat.{_≤_};
 ghost use lib.ListN.{length, take};
+ghost use Rattle.table_gcra.specs.Table.{tableOf};
 ghost use Rattle.text_session.specs.Session.{Lent};
 ghost use Rattle.text_transcript.specs.Running.{Ready, stateOf, endingOf};
 ghost use Rattle.text_protocol.specs.Command.{mostLine};
@@ -93,6 +94,7 @@ fn answer(
     line: &mut [u8],
     ids: &mut [u32],
     tats: &mut [u64],
+    newest: &mut u64,
     out: &mut [u8],
     sent: &mut u64,
 ) -> Answered
@@ -100,10 +102,12 @@ fn answer(
     requires { ⌜ Lent (now ids) (now tats) ⌝ }
     requires { ⌜ Ample (now piece) (now out) ⌝ }
     requires { ⌜ n ≤ length (now piece) ⌝ }
-    ensures { λ r. ⌜ Onwards r (stateOf session (now (line .entry)) (now (ids .entry)) (now (tats .entry))) (take n (now (piece .entry)))
-        (now (line .exit)) (now (ids .exit)) (now (tats .exit)) (now (out .exit)) (now (sent .entry)) (now (sent .exit)) ⌝ }
+    ensures { λ r. ⌜ Onwards r (stateOf session (now (line .entry))
+        (tableOf (now (ids .entry)) (now (tats .entry)) (now (newest .entry)))) (take n (now (piece .entry)))
+        (now (line .exit)) (tableOf (now (ids .exit)) (now (tats .exit)) (now (newest .exit)))
+        (now (out .exit)) (now (sent .entry)) (now (sent .exit)) ⌝ }
 {
-    let fed = stream::feed(session, &piece[..n], line, ids, tats, out, 0);
+    let fed = stream::feed(session, &piece[..n], line, ids, tats, newest, out, 0);
     let next = fed.session;
     if write(out, fed.at, sent) {
         return Answered::Next(next);
@@ -132,6 +136,7 @@ fn pieces(
     line: &mut [u8],
     ids: &mut [u32],
     tats: &mut [u64],
+    newest: &mut u64,
     out: &mut [u8],
     taken: &mut u64,
     sent: &mut u64,
@@ -139,8 +144,11 @@ fn pieces(
     requires { ⌜ mostLine ≤ length (now line) ⌝ }
     requires { ⌜ Lent (now ids) (now tats) ⌝ }
     requires { ⌜ Ample (now piece) (now out) ⌝ }
-    ensures { λ r. ⌜ Answers r (accountOf (now (ids .entry)) (now (tats .entry)) (now (taken .entry)) (now (sent .entry)))
-        (accountOf (now (ids .exit)) (now (tats .exit)) (now (taken .exit)) (now (sent .exit))) ⌝ }
+    ensures { λ r. ⌜ Answers r
+        (accountOf (tableOf (now (ids .entry)) (now (tats .entry)) (now (newest .entry)))
+        (now (taken .entry)) (now (sent .entry)))
+        (accountOf (tableOf (now (ids .exit)) (now (tats .exit)) (now (newest .exit)))
+        (now (taken .exit)) (now (sent .exit))) ⌝ }
 {
     let mut session = stream::start();
     let mut turns = u64::MAX;
@@ -150,8 +158,8 @@ fn pieces(
         }
         match read(piece, taken) {
             Input::Got(n) => {
-                let Answered::Next(next) = answer(session, piece, n, line, ids, tats, out, sent)
-                else {
+                let told = answer(session, piece, n, line, ids, tats, newest, out, sent);
+                let Answered::Next(next) = told else {
                     break Run::Unwritten;
                 };
                 session = next;
@@ -169,6 +177,7 @@ pub fn serve(
     line: &mut [u8],
     ids: &mut [u32],
     tats: &mut [u64],
+    newest: &mut u64,
     out: &mut [u8],
     taken: &mut u64,
     sent: &mut u64,
@@ -176,11 +185,14 @@ pub fn serve(
     requires { ⌜ mostLine ≤ length (now line) ⌝ }
     requires { ⌜ Lent (now ids) (now tats) ⌝ }
     requires { ⌜ Ample (now piece) (now out) ⌝ }
-    ensures { λ r. ⌜ Serves r (accountOf (now (ids .entry)) (now (tats .entry)) (now (taken .entry)) (now (sent .entry)))
-        (accountOf (now (ids .exit)) (now (tats .exit)) (now (taken .exit)) (now (sent .exit))) ⌝ }
+    ensures { λ r. ⌜ Serves r
+        (accountOf (tableOf (now (ids .entry)) (now (tats .entry)) (now (newest .entry)))
+        (now (taken .entry)) (now (sent .entry)))
+        (accountOf (tableOf (now (ids .exit)) (now (tats .exit)) (now (newest .exit)))
+        (now (taken .exit)) (now (sent .exit))) ⌝ }
 {
     if begin(out, sent) {
-        return pieces(piece, line, ids, tats, out, taken, sent);
+        return pieces(piece, line, ids, tats, newest, out, taken, sent);
     }
     Run::Unwritten
 }

@@ -8,7 +8,7 @@ use Rattle.rate.specs.declared.answer.Cleared.the-variants.{Done, BadTab
 use Rattle.rate.specs.declared.answer.Outcome.{Outcome}
 use Rattle.rate.specs.declared.answer.Outcome.the-variants.{Refused}
 use Rattle.rate.specs.declared.answer.Reason.{Reason}
-use Rattle.rate.specs.declared.answer.Reason.the-variants.{BadPlan, BadTable, LateMoment, NoSubscriber, ZeroCost, CostAboveBurst, CorruptRecord, TableFull}
+use Rattle.rate.specs.declared.answer.Reason.the-variants.{BadPlan, BadTable, LateMoment, EarlyMoment, NoSubscriber, ZeroCost, CostAboveBurst, CorruptRecord, TableFull}
 use Rattle.ticks.specs.declared.plan.Plan.{Plan}
 use Rattle.rate.specs.Decision.{Verdict, bare, reported, admitted, throttled, resetAt, retryAfter}
 use Rattle.rate.specs.Answer.{reasonNumber, verdictOf, answered, numbersOf, clearedNumbers}
@@ -24,6 +24,10 @@ bad-table = refl
 pub late-moment : reasonNumber LateMoment ≡ 3
 unfolding reasonNumber
 late-moment = refl
+
+pub early-moment : reasonNumber EarlyMoment ≡ 11
+unfolding reasonNumber
+early-moment = refl
 
 pub no-subscriber : reasonNumber NoSubscriber ≡ 4
 unfolding reasonNumber
@@ -51,6 +55,7 @@ unfolding reasonNumber
 refuses BadPlan = refl
 refuses BadTable = refl
 refuses LateMoment = refl
+refuses EarlyMoment = refl
 refuses NoSubscriber = refl
 refuses ZeroCost = refl
 refuses CostAboveBurst = refl
@@ -69,6 +74,19 @@ corrupt = refused CorruptRecord ∙ ap bare corrupt-record
 pub bare-number : (n : ℕ) → bare n .number ≡ n
 unfolding bare
 bare-number n = refl
+
+-- .. and the zeros beside that of a refusal
+pub bare-left : (n : ℕ) → bare n .left ≡ 0
+unfolding bare
+bare-left n = refl
+
+pub bare-reset : (n : ℕ) → bare n .reset ≡ 0
+unfolding bare
+bare-reset n = refl
+
+pub bare-wait : (n : ℕ) → bare n .wait ≡ 0
+unfolding bare
+bare-wait n = refl
 
 pub reported-number : (p : Plan) (at backlog : ℕ) → reported p at backlog .number ≡ 0
 unfolding reported

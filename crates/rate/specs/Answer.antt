@@ -7,7 +7,7 @@ use Rattle.rate.specs.declared.answer.Numbers.{Numbers}
 use Rattle.rate.specs.declared.answer.Outcome.{Outcome}
 use Rattle.rate.specs.declared.answer.Outcome.the-variants.{Admitted, Throttled, Refused}
 use Rattle.rate.specs.declared.answer.Reason.{Reason}
-use Rattle.rate.specs.declared.answer.Reason.the-variants.{BadPlan, BadTable, LateMoment, NoSubscriber, ZeroCost, CostAboveBurst, CorruptRecord, TableFull}
+use Rattle.rate.specs.declared.answer.Reason.the-variants.{BadPlan, BadTable, LateMoment, EarlyMoment, NoSubscriber, ZeroCost, CostAboveBurst, CorruptRecord, TableFull}
 use Rattle.rate.specs.Decision.{Verdict, bare}
 
 -- the number of each cause of a refusal
@@ -15,6 +15,7 @@ unfoldable pub reasonNumber : Reason → ℕ
 reasonNumber BadPlan = 1
 reasonNumber BadTable = 2
 reasonNumber LateMoment = 3
+reasonNumber EarlyMoment = 11
 reasonNumber NoSubscriber = 4
 reasonNumber ZeroCost = 5
 reasonNumber CostAboveBurst = 6

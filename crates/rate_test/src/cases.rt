@@ -34,11 +34,12 @@ pub fn answers() {
     reckon::refused(0, Reason::BadPlan, shop);
     reckon::refused(1, Reason::BadTable, shop);
     reckon::refused(2, Reason::LateMoment, shop);
-    reckon::refused(3, Reason::NoSubscriber, 0);
-    reckon::refused(4, Reason::ZeroCost, shop);
-    reckon::refused(5, Reason::CostAboveBurst, shop);
-    reckon::refused(6, Reason::CorruptRecord, shop);
-    reckon::refused(7, Reason::TableFull, shop);
+    reckon::refused(3, Reason::EarlyMoment, shop);
+    reckon::refused(4, Reason::NoSubscriber, 0);
+    reckon::refused(5, Reason::ZeroCost, shop);
+    reckon::refused(6, Reason::CostAboveBurst, shop);
+    reckon::refused(7, Reason::CorruptRecord, shop);
+    reckon::refused(8, Reason::TableFull, shop);
     reckon::cleared(0, Cleared::Done);
     reckon::cleared(1, Cleared::BadTable);
 }

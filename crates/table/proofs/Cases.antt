@@ -1,7 +1,7 @@
 -- What each call comes to in each case, for any rule and any columns. A function's proof cites the case that it returns in.
 -- Assumes nothing.
 use mathlib.Core.Path.{_≡_, refl, ap, _∙_}
-use mathlib.Core.Bool.{true, false}
+use mathlib.Core.Bool.{true, false, _||_}
 use Prim.Native.Nat.{ℕ}
 use lib.Dec.{eqb}
 use Rattle.rate.specs.Answer.{answered}
@@ -12,7 +12,7 @@ use Rattle.table.specs.declared.search.Place.the-variants.{Nowhere, At}
 use Rattle.table.specs.Request.{Query, Request}
 use Rattle.table.specs.Checks.{slotsOk, queryCheck, requestCheck}
 use Rattle.table.specs.Rule.{Rule}
-use Rattle.table.specs.Slots.{Columns, own, lowestFree}
+use Rattle.table.specs.Slots.{Columns, seek, carries, own, vacant, lowestFree}
 use Rattle.table.specs.Calls.{Slot, none, at, keep, write, ruled, newcomer, slotFrom, slotFor, judgeIn, judgeCall}
 use Rattle.table.specs.Calls.{commit, acquire, heldAt, held, peekVerdict, peek, clear, gate, toll}
 use Rattle.rate.proofs.Cases.{guard-0, guard-not-0, settled-spent, settled-kept}
@@ -56,6 +56,22 @@ module _ {C P R : Type 0} (U : Rule P R) (K : Columns C R) (c : C) where
     unfolding newcomer
     slot-none e f = slot-newcomer e f
 
+    -- the slot goes by how many there are, their numbers and their records, and not by the newest moment
+    slot-from-reads :
+        (d : C) → K .slots c ≡ K .slots d → K .ids c ≡ K .ids d → K .row c ≡ K .row d → (p : Place) →
+        slotFrom U K q c p ≡ slotFrom U K q d p
+    unfolding slotFrom lowestFree vacant
+    slot-from-reads d slots ids row Nowhere =
+        λ k. newcomer U q (seek (λ (j : ℕ). carries (ids k) 0 j || U .free (q .setting) (q .moment) (row k j)) (slots k))
+    slot-from-reads d slots ids row (At i) = λ k. at i (row k i)
+
+    pub slot-reads :
+        (d : C) → K .slots c ≡ K .slots d → K .ids c ≡ K .ids d → K .row c ≡ K .row d → slotFor U K q c ≡ slotFor U K q d
+    unfolding slotFor own
+    slot-reads d slots ids row =
+        slot-from-reads d slots ids row (own K (q .subscriber) c)
+        ∙ (λ k. slotFrom U K q d (seek (carries (ids k) (q .subscriber)) (slots k)))
+
     -- the record of a look
     pub held-own : {i : ℕ} → own K (q .subscriber) c ≡ At i → held U K q c ≡ K .row c i
     unfolding held heldAt
@@ -98,20 +114,21 @@ module _ {C P R : Type 0} (U : Rule P R) (K : Columns C R) (c : C) where
     judge-at e f = judge-passed e f
 
 -- what a ruling answers and leaves
-module _ {C R : Type 0} (K : Columns C R) (subscriber : ℕ) (c : C) where
-  pub commit-keep : (v : Verdict) → commit K subscriber c (keep v) ≡ record { answer = answered subscriber v; after = c }
+module _ {C P R : Type 0} (K : Columns C R) (q : Query P) (c : C) where
+  pub commit-keep : (v : Verdict) → commit K q c (keep v) ≡ record { answer = answered (q .subscriber) v; after = c }
   unfolding commit
   commit-keep v = refl
 
   pub commit-write :
       (v : Verdict) (i : ℕ) (held : R) →
-      commit K subscriber c (write v i held) ≡ record { answer = answered subscriber v; after = K .put c i subscriber held }
+      commit K q c (write v i held)
+      ≡ record { answer = answered (q .subscriber) v; after = K .put c i (q .subscriber) (q .moment) held }
   unfolding commit
   commit-write v i held = refl
 
 -- an ask is judged and committed; a look answers its verdict and leaves the columns
 module _ {C P R : Type 0} (U : Rule P R) (K : Columns C R) (c : C) where
-  pub acquire-commits : (r : Request P) → acquire U K r c ≡ commit K (r .query .subscriber) c (judgeCall U K r c)
+  pub acquire-commits : (r : Request P) → acquire U K r c ≡ commit K (r .query) c (judgeCall U K r c)
   unfolding acquire
   acquire-commits r = refl
 

@@ -6,7 +6,7 @@ use mathlib.Core.Bool.{Bool, true, false, false≢true, and-true, and-false}
 use Prim.Native.Nat.{ℕ, zero, suc, _≤_}
 use native.Mathlib.Omega.{arith}
 use lib.Dec.{eqb, leb, ltb}
-use borrow.Author.Tests.{le-leb, lt-leb, leb-true, eq-eqb, ne-eqb}
+use borrow.Author.Tests.{le-leb, lt-leb, leb-true, ltb-false, eq-eqb, ne-eqb}
 use Rattle.ticks.specs.declared.plan.Plan.{Plan}
 use Rattle.ticks.specs.Grains.{planOk, onClock, InForce}
 use Rattle.ticks.proofs.Limits.{in-force}
@@ -27,41 +27,53 @@ module _ (g : Gate) where
   unfolding queryCheck
   number-3 plan table moment = rw (plan, table, moment)
 
-  pub number-4 :
-      g .ok ≡ true → slotsOk (g .slots) ≡ true → onClock (g .moment) ≡ true → eqb (g .subscriber) 0 ≡ true →
-      queryCheck g ≡ 4
+  pub number-11 :
+      g .ok ≡ true → slotsOk (g .slots) ≡ true → onClock (g .moment) ≡ true → ltb (g .moment) (g .newest) ≡ true →
+      queryCheck g ≡ 11
   unfolding queryCheck
-  number-4 plan table moment subscriber = rw (plan, table, moment, subscriber)
+  number-11 plan table moment newest = rw (plan, table, moment, newest)
 
-  -- why one of checks 1 to 4 stops a call: it applies, and none before it
+  pub number-4 :
+      g .ok ≡ true → slotsOk (g .slots) ≡ true → onClock (g .moment) ≡ true → ltb (g .moment) (g .newest) ≡ false →
+      eqb (g .subscriber) 0 ≡ true → queryCheck g ≡ 4
+  unfolding queryCheck
+  number-4 plan table moment newest subscriber = rw (plan, table, moment, newest, subscriber)
+
+  -- why one of the checks before the cost's stops a call: it applies, and none before it
   pub data Stopped : ℕ → Type 0 where
     bad-plan : g .ok ≡ false → Stopped 1
     bad-table : g .ok ≡ true → slotsOk (g .slots) ≡ false → Stopped 2
     late-moment : g .ok ≡ true → slotsOk (g .slots) ≡ true → onClock (g .moment) ≡ false → Stopped 3
+    early-moment :
+        g .ok ≡ true → slotsOk (g .slots) ≡ true → onClock (g .moment) ≡ true → ltb (g .moment) (g .newest) ≡ true →
+        Stopped 11
     no-subscriber :
-        g .ok ≡ true → slotsOk (g .slots) ≡ true → onClock (g .moment) ≡ true → eqb (g .subscriber) 0 ≡ true →
-        Stopped 4
+        g .ok ≡ true → slotsOk (g .slots) ≡ true → onClock (g .moment) ≡ true → ltb (g .moment) (g .newest) ≡ false →
+        eqb (g .subscriber) 0 ≡ true → Stopped 4
 
   pub stops : {n : ℕ} → Stopped n → queryCheck g ≡ n
   stops (bad-plan a) = number-1 a
   stops (bad-table a b) = number-2 a b
   stops (late-moment a b m) = number-3 a b m
-  stops (no-subscriber a b m s) = number-4 a b m s
+  stops (early-moment a b m e) = number-11 a b m e
+  stops (no-subscriber a b m e s) = number-4 a b m e s
 
   pub stops-not-0 : {n : ℕ} → Stopped n → eqb n 0 ≡ false
   stops-not-0 (bad-plan a) = refl
   stops-not-0 (bad-table a b) = refl
   stops-not-0 (late-moment a b m) = refl
-  stops-not-0 (no-subscriber a b m s) = refl
+  stops-not-0 (early-moment a b m e) = refl
+  stops-not-0 (no-subscriber a b m e s) = refl
 
--- checks 1 to 4 have passed
+-- the checks before the cost's have passed
 pub record Asked (g : Gate) : Type 0 where
   pub plan : g .ok ≡ true
   pub table : slotsOk (g .slots) ≡ true
   pub moment : onClock (g .moment) ≡ true
+  pub newest : ltb (g .moment) (g .newest) ≡ false
   pub subscriber : eqb (g .subscriber) 0 ≡ false
 
--- checks 1 to 6 have passed
+-- all checks have passed
 pub record Payable (t : Toll) : Type 0 where
   pub asked : Asked (t .gate)
   pub cost : eqb (t .cost) 0 ≡ false
@@ -70,20 +82,21 @@ pub record Payable (t : Toll) : Type 0 where
 module _ (g : Gate) where
   pub asks : Asked g → queryCheck g ≡ 0
   unfolding queryCheck
-  asks a = rw (a .plan, a .table, a .moment, a .subscriber)
+  asks a = rw (a .plan, a .table, a .moment, a .newest, a .subscriber)
 
   pub asked-or-stopped : Asked g ⊎ ((n : ℕ) × Stopped g n)
   asked-or-stopped =
-      by (g .ok) refl (slotsOk (g .slots)) refl (onClock (g .moment)) refl (eqb (g .subscriber) 0) refl
+      by (g .ok) refl (slotsOk (g .slots)) refl (onClock (g .moment)) refl (ltb (g .moment) (g .newest)) refl (eqb (g .subscriber) 0) refl
     where
       by :
           (p : Bool) → g .ok ≡ p → (t : Bool) → slotsOk (g .slots) ≡ t → (m : Bool) → onClock (g .moment) ≡ m →
-          (s : Bool) → eqb (g .subscriber) 0 ≡ s → Asked g ⊎ ((n : ℕ) × Stopped g n)
-      by true ep true et true em false es = inl (record { plan = ep; table = et; moment = em; subscriber = es })
-      by false ep t et m em s es = inr (1, bad-plan ep)
-      by true ep false et m em s es = inr (2, bad-table ep et)
-      by true ep true et false em s es = inr (3, late-moment ep et em)
-      by true ep true et true em true es = inr (4, no-subscriber ep et em es)
+          (w : Bool) → ltb (g .moment) (g .newest) ≡ w → (s : Bool) → eqb (g .subscriber) 0 ≡ s → Asked g ⊎ ((n : ℕ) × Stopped g n)
+      by true ep true et true em false ew false es = inl (record { plan = ep; table = et; moment = em; newest = ew; subscriber = es })
+      by false ep t et m em w ew s es = inr (1, bad-plan ep)
+      by true ep false et m em w ew s es = inr (2, bad-table ep et)
+      by true ep true et false em w ew s es = inr (3, late-moment ep et em)
+      by true ep true et true em true ew s es = inr (11, early-moment ep et em ew)
+      by true ep true et true em false ew true es = inr (4, no-subscriber ep et em ew es)
 
   pub asked : queryCheck g ≡ 0 → Asked g
   asked e = by asked-or-stopped
@@ -93,8 +106,12 @@ module _ (g : Gate) where
       by (inr s) = absurd (false≢true (sym (stops-not-0 g (s .1)) ∙ eq-eqb _ _ (sym (stops g (s .1)) ∙ e)))
 
 -- a plan that has passed and the moment are those that the rules of reckoning require
-pub asked-in-force : (p : Plan) (slots moment subscriber : ℕ) → Asked (gateOf (planOk p) slots moment subscriber) → InForce p moment
-asked-in-force p slots moment subscriber a = in-force p moment (a .plan) (a .moment)
+pub asked-in-force : (p : Plan) (slots newest moment subscriber : ℕ) → Asked (gateOf (planOk p) slots newest moment subscriber) → InForce p moment
+asked-in-force p slots newest moment subscriber a = in-force p moment (a .plan) (a .moment)
+
+-- a moment that has passed is not before the newest
+pub asked-since : (g : Gate) → Asked g → g .newest ≤ g .moment
+asked-since g a = ltb-false _ _ (a .newest)
 
 -- how many slots a table that has passed has
 pub slots-least : (slots : ℕ) → slotsOk slots ≡ true → 1 ≤ slots
@@ -116,7 +133,7 @@ unfolding slotsOk
 slots-beyond slots h = rw (lt-leb slots mostSlots (omega arith)) (and-false (leb 1 slots))
 
 module _ (t : Toll) where
-  -- checks 1 to 4 answer an ask as they answer a look
+  -- the checks before the cost's answer an ask as they answer a look
   pub query-first : eqb (queryCheck (t .gate)) 0 ≡ false → requestCheck t ≡ queryCheck (t .gate)
   unfolding requestCheck
   query-first h = guard-not-0 (λ n. n) (queryCheck (t .gate)) (costCheck t) h

@@ -49,16 +49,16 @@ not-0 reason e = ap (λ (x : ℕ). eqb x 0) e ∙ refuses reason
 module _ {C P R : Type 0} (U : Rule P R) (K : Columns C R) (c : C) {number : ℕ} {ok : Bool} {slots : ℕ} where
   pub request-says :
       (r : Request P) →
-      number ≡ requestCheck (tollOf (gateOf ok slots (r .query .moment) (r .query .subscriber)) (U .most (r .query .setting)) (r .cost)) →
+      number ≡ requestCheck (tollOf (gateOf ok slots (K .newest c) (r .query .moment) (r .query .subscriber)) (U .most (r .query .setting)) (r .cost)) →
       ok ≡ U .ok (r .query .setting) → slots ≡ K .slots c → number ≡ requestCheck (toll U K r c)
   request-says r says e f =
       says
-      ∙ ap₂ (λ (o : Bool) (n : ℕ). requestCheck (tollOf (gateOf o n (r .query .moment) (r .query .subscriber)) (U .most (r .query .setting)) (r .cost))) e f
+      ∙ ap₂ (λ (o : Bool) (n : ℕ). requestCheck (tollOf (gateOf o n (K .newest c) (r .query .moment) (r .query .subscriber)) (U .most (r .query .setting)) (r .cost))) e f
 
   pub query-says :
-      (q : Query P) → number ≡ queryCheck (gateOf ok slots (q .moment) (q .subscriber)) → ok ≡ U .ok (q .setting) →
+      (q : Query P) → number ≡ queryCheck (gateOf ok slots (K .newest c) (q .moment) (q .subscriber)) → ok ≡ U .ok (q .setting) →
       slots ≡ K .slots c → number ≡ queryCheck (gate U K q c)
-  query-says q says e f = says ∙ ap₂ (λ (o : Bool) (n : ℕ). queryCheck (gateOf o n (q .moment) (q .subscriber))) e f
+  query-says q says e f = says ∙ ap₂ (λ (o : Bool) (n : ℕ). queryCheck (gateOf o n (K .newest c) (q .moment) (q .subscriber))) e f
 
 -- an ask, in each of the cases in which it is judged
 module _ {C P R : Type 0} (U : Rule P R) (K : Columns C R) (c : C) (r : Request P) where
@@ -134,7 +134,7 @@ module _ {C P R : Type 0} (U : Rule P R) (K : Columns C R) (c : C) (r : Request 
   pub write-told :
       {x : Ruling R} {i : ℕ} {held : R} → x ≡ judgeCall U K r c → x ≡ write (verdictOf outcome) i held →
       (numbersOf (record { subscriber = r .query .subscriber; outcome = outcome }) ≡ acquire U K r c .answer)
-      × (K .put c i (r .query .subscriber) held ≡ acquire U K r c .after)
+      × (K .put c i (r .query .subscriber) (r .query .moment) held ≡ acquire U K r c .after)
   write-told e f = told (acquire-writes U K r c (sym e ∙ f))
 
 -- a search over all slots

@@ -31,20 +31,20 @@ stays r c v = record { answer = answered (r .query .subscriber) v; after = c }
 -- an answer, and one slot overwritten
 abbrev pub writes : {C P R : Type 0} → Columns C R → Request P → C → Verdict → ℕ → R → Step C
 writes K r c v i held =
-    record { answer = answered (r .query .subscriber) v; after = K .put c i (r .query .subscriber) held }
+    record { answer = answered (r .query .subscriber) v; after = K .put c i (r .query .subscriber) (r .query .moment) held }
 
 module _ {C P R : Type 0} (U : Rule P R) (K : Columns C R) (r : Request P) (c : C) where
   pub acquire-keeps : {v : Verdict} → judgeCall U K r c ≡ keep v → acquire U K r c ≡ stays r c v
   acquire-keeps {v} e =
-      acquire-commits U K c r ∙ ap (λ (x : Ruling R). commit K (r .query .subscriber) c x) e
-      ∙ commit-keep K (r .query .subscriber) c v
+      acquire-commits U K c r ∙ ap (λ (x : Ruling R). commit K (r .query) c x) e
+      ∙ commit-keep K (r .query) c v
 
   pub acquire-writes : {v : Verdict} {i : ℕ} {held : R} → judgeCall U K r c ≡ write v i held → acquire U K r c ≡ writes K r c v i held
   acquire-writes {v} {i} {held} e =
-      acquire-commits U K c r ∙ ap (λ (x : Ruling R). commit K (r .query .subscriber) c x) e
-      ∙ commit-write K (r .query .subscriber) c v i held
+      acquire-commits U K c r ∙ ap (λ (x : Ruling R). commit K (r .query) c x) e
+      ∙ commit-write K (r .query) c v i held
 
-  -- numbers 1 to 6
+  -- numbers 1 to 6 and 11
   pub refused : eqb (requestCheck (toll U K r c)) 0 ≡ false → acquire U K r c ≡ stays r c (bare (requestCheck (toll U K r c)))
   refused h = acquire-keeps (judge-refused U K c r h)
 

@@ -1,5 +1,5 @@
 -- What an acquire writes: a number other than 0 leaves the columns as they were; number 0 overwrites one slot whole, the
--- subscriber's own or else the lowest free one, and leaves every other slot as it was.
+-- subscriber's own or else the lowest free one, leaves every other slot as it was, and makes its moment the newest.
 -- Assumes nothing.
 use mathlib.Core.Path.{_≡_, refl, sym, ap, _∙_}
 use mathlib.Core.Bool.{false, false≢true}
@@ -25,7 +25,7 @@ module _ {C P R : Type 0} (U : Rule P R) (K : Columns C R) (r : Request P) (c : 
     pub place : ℕ
     pub held : R
     pub takes : Taken U K (r .query) c place
-    pub after : acquire U K r c .after ≡ K .put c place (r .query .subscriber) held
+    pub after : acquire U K r c .after ≡ K .put c place (r .query .subscriber) (r .query .moment) held
 
   denied :
       (x : Ruling R) → judgeCall U K r c ≡ x → Effect U K r c x → eqb (acquire U K r c .answer .number) 0 ≡ false →
@@ -56,10 +56,15 @@ module _ {C P R : Type 0} (U : Rule P R) (K : Columns C R) (r : Request P) (c : 
     taken-slot =
         let within : a .place < K .slots c = taken-within U K (r .query) c (a .takes) in (
           ap (λ (d : C). getD (K .ids d) (a .place) 0) (a .after)
-              ∙ ap (λ (l : List ℕ). getD l (a .place) 0) (S .ids-put c (a .place) (r .query .subscriber) (a .held))
+              ∙ ap (λ (l : List ℕ). getD l (a .place) 0) (S .ids-put c (a .place) (r .query .subscriber) (r .query .moment) (a .held))
               ∙ getD-set-same (K .ids c) (a .place) (r .query .subscriber) 0 (omega (arith, S .ids-length c (omega arith))),
-          ap (λ (d : C). K .row d (a .place)) (a .after) ∙ S .row-same c (a .place) (r .query .subscriber) (a .held) within,
+          ap (λ (d : C). K .row d (a .place)) (a .after) ∙ S .row-same c (a .place) (r .query .subscriber) (r .query .moment) (a .held) within,
         )
+
+    -- its moment is the newest
+    pub newest-taken : K .newest (acquire U K r c .after) ≡ r .query .moment
+    newest-taken =
+        ap (λ (d : C). K .newest d) (a .after) ∙ S .newest-put c (a .place) (r .query .subscriber) (r .query .moment) (a .held)
 
     -- every other slot is as it was
     pub other-slots :
@@ -67,7 +72,7 @@ module _ {C P R : Type 0} (U : Rule P R) (K : Columns C R) (r : Request P) (c : 
         (getD (K .ids (acquire U K r c .after)) j 0 ≡ getD (K .ids c) j 0) × (K .row (acquire U K r c .after) j ≡ K .row c j)
     other-slots j h = (
       ap (λ (d : C). getD (K .ids d) j 0) (a .after)
-          ∙ ap (λ (l : List ℕ). getD l j 0) (S .ids-put c (a .place) (r .query .subscriber) (a .held))
+          ∙ ap (λ (l : List ℕ). getD l j 0) (S .ids-put c (a .place) (r .query .subscriber) (r .query .moment) (a .held))
           ∙ getD-set-other (K .ids c) (a .place) j (r .query .subscriber) 0 h,
-      ap (λ (d : C). K .row d j) (a .after) ∙ S .row-other c (a .place) j (r .query .subscriber) (a .held) h,
+      ap (λ (d : C). K .row d j) (a .after) ∙ S .row-other c (a .place) j (r .query .subscriber) (r .query .moment) (a .held) h,
     )

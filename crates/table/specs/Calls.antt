@@ -44,15 +44,15 @@ judgeIn U r none = keep (bare 9)
 judgeIn U r (at i held) = ruled i (settled (U .judge (r .query .setting) (r .query .moment) held (r .cost)))
 
 -- what a ruling answers and leaves
-unfoldable pub commit : {C R : Type 0} → Columns C R → ℕ → C → Ruling R → Step C
-commit K subscriber c (keep v) = record { answer = answered subscriber v; after = c }
-commit K subscriber c (write v i held) =
-    record { answer = answered subscriber v; after = K .put c i subscriber held }
+unfoldable pub commit : {C P R : Type 0} → Columns C R → Query P → C → Ruling R → Step C
+commit K q c (keep v) = record { answer = answered (q .subscriber) v; after = c }
+commit K q c (write v i held) =
+    record { answer = answered (q .subscriber) v; after = K .put c i (q .subscriber) (q .moment) held }
 
 module _ {C P R : Type 0} (U : Rule P R) (K : Columns C R) where
   -- what the checks look at
   abbrev pub gate : Query P → C → Gate
-  gate q c = gateOf (U .ok (q .setting)) (K .slots c) (q .moment) (q .subscriber)
+  gate q c = gateOf (U .ok (q .setting)) (K .slots c) (K .newest c) (q .moment) (q .subscriber)
 
   abbrev pub toll : Request P → C → Toll
   toll r c = tollOf (gate (r .query) c) (U .most (r .query .setting)) (r .cost)
@@ -65,13 +65,13 @@ module _ {C P R : Type 0} (U : Rule P R) (K : Columns C R) where
   unfoldable pub slotFor : Query P → C → Slot R
   slotFor q c = slotFrom q c (own K (q .subscriber) c)
 
-  -- an ask judged: checks 1 to 6, then on the record in its slot
+  -- an ask judged: the checks, then on the record in its slot
   unfoldable pub judgeCall : Request P → C → Ruling R
   judgeCall r c = guard (λ n. keep (bare n)) (requestCheck (toll r c)) (judgeIn U r (slotFor (r .query) c))
 
   -- ask
   unfoldable pub acquire : Request P → C → Step C
-  acquire r c = commit K (r .query .subscriber) c (judgeCall r c)
+  acquire r c = commit K (r .query) c (judgeCall r c)
 
   -- the own record; without a slot the bucket is full
   unfoldable pub heldAt : Query P → C → Place → R
@@ -81,7 +81,7 @@ module _ {C P R : Type 0} (U : Rule P R) (K : Columns C R) where
   unfoldable pub held : Query P → C → R
   held q c = heldAt q c (own K (q .subscriber) c)
 
-  -- look: checks 1 to 4, then the own record; nothing is written
+  -- look: the checks but the cost's, then the own record; nothing is written
   unfoldable pub peekVerdict : Query P → C → Verdict
   peekVerdict q c = guard bare (queryCheck (gate q c)) (U .report (q .setting) (q .moment) (held q c))
 

@@ -21,9 +21,11 @@ pub record Columns (C R : Type 0) : Type 0 where
   pub ids : C → List ℕ
   -- the record in a slot
   pub row : C → ℕ → R
-  -- a slot overwritten whole, with a number and a record
-  pub put : C → ℕ → ℕ → R → C
-  -- every column all zeros
+  -- the newest moment at which anything was admitted (document 02, Item 6)
+  pub newest : C → ℕ
+  -- an admission: a slot overwritten whole, with a number and a record, and its moment as the newest
+  pub put : C → ℕ → ℕ → ℕ → R → C
+  -- every column all zeros, and the newest moment 0
   pub zeros : C → C
 
 -- the lowest of the places from one on, so many, that passes a test

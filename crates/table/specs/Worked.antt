@@ -1,5 +1,5 @@
 -- Document 01, 'The tabbed text': its ten asks with their answers, cost B on a cleared table, and subscriber 0 with cost 0;
--- resets are those of document 02 (Item 2).
+-- resets are those of document 02 (Item 2), and so is the number of the last ask (Item 6).
 use Prim.Native.Nat.{ℕ}
 use mathlib.Core.List.{List, [], _∷_, _++_}
 use Rattle.rate.specs.declared.answer.Numbers.{Numbers}
@@ -46,7 +46,7 @@ answers =
     ∷ line 9 8 0 0 0
     ∷ line 0 8 0 2667 0
     ∷ line 9 7 0 0 0
-    ∷ line 7 8 0 0 0
+    ∷ line 11 8 0 0 0
     ∷ []
 
 -- cost B on a cleared table is admitted with 0 left: P×B / N = 2000 / 3 = 666.7, so 667 ms later all is there again

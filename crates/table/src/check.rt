@@ -1,4 +1,5 @@
-// Checks 1 to 6 (document 01, 'When the gate says no'), in their order: the first that applies answers.
+// Checks 1 to 6 (document 01, 'When the gate says no') and number 11 just after 3 (document 02, Item 6), in their order: the
+// first that applies answers.
 ghost use mathlib.Core.Path.{_≡_};
 ghost use Rattle.table.specs.Checks.{slotsOk, gateOf, tollOf, queryCheck, requestCheck, checkNumber};
 use rate::answer::Reason;
@@ -22,10 +23,10 @@ pub fn is_slot_count(slots: usize) -> bool
     slots <= MOST_SLOTS
 }
 
-// Checks 1 to 4, for a peek. `ok` says whether what is lent beside the columns is within its limits; unequal columns count as
-// 0 slots.
-pub fn query(ok: bool, slots: usize, moment: Millis, subscriber: u32) -> Check
-    ensures { λ r. ⌜ checkNumber r ≡ queryCheck (gateOf ok slots (moment .0) subscriber) ⌝ }
+// Checks 1, 2, 3, 11 and 4, for a peek. `ok` says whether what is lent beside the columns is within its limits; unequal columns
+// count as 0 slots.
+pub fn query(ok: bool, slots: usize, newest: Millis, moment: Millis, subscriber: u32) -> Check
+    ensures { λ r. ⌜ checkNumber r ≡ queryCheck (gateOf ok slots (newest .0) (moment .0) subscriber) ⌝ }
 {
     if !ok {
         return Check::Failed(Reason::BadPlan);
@@ -36,24 +37,28 @@ pub fn query(ok: bool, slots: usize, moment: Millis, subscriber: u32) -> Check
     if !moment.is_on_clock() {
         return Check::Failed(Reason::LateMoment);
     }
+    if moment.0 < newest.0 {
+        return Check::Failed(Reason::EarlyMoment);
+    }
     if subscriber == 0 {
         return Check::Failed(Reason::NoSubscriber);
     }
     Check::Passed
 }
 
-// Checks 1 to 6, for an acquire, of which `most` is the most that a cost may be.
+// All checks, for an acquire, of which `most` is the most that a cost may be.
 pub fn request(
     ok: bool,
     slots: usize,
+    newest: Millis,
     moment: Millis,
     subscriber: u32,
     most: u32,
     cost: u32,
 ) -> Check
-    ensures { λ r. ⌜ checkNumber r ≡ requestCheck (tollOf (gateOf ok slots (moment .0) subscriber) most cost) ⌝ }
+    ensures { λ r. ⌜ checkNumber r ≡ requestCheck (tollOf (gateOf ok slots (newest .0) (moment .0) subscriber) most cost) ⌝ }
 {
-    if let Check::Failed(reason) = query(ok, slots, moment, subscriber) {
+    if let Check::Failed(reason) = query(ok, slots, newest, moment, subscriber) {
         return Check::Failed(reason);
     }
     if cost == 0 {

@@ -28,9 +28,9 @@ ids-length : (t : Table) → 1 ≤ columns .slots t → length (t .ids) ≡ colu
 unfolding columns
 ids-length t h = sym (common-same (length (t .ids)) (length (t .tats)) (common-equal (length (t .ids)) (length (t .tats)) h))
 
-row-same : (t : Table) (i subscriber : ℕ) (tat : Ticks) → i < columns .slots t → columns .row (columns .put t i subscriber tat) i ≡ tat
+row-same : (t : Table) (i subscriber moment : ℕ) (tat : Ticks) → i < columns .slots t → columns .row (columns .put t i subscriber moment tat) i ≡ tat
 unfolding columns
-row-same t i subscriber tat h = λ k. record { 0 = getD-set-same (t .tats) i (tat .0) 0 (in-both t i h .1) k }
+row-same t i subscriber moment tat h = λ k. record { 0 = getD-set-same (t .tats) i (tat .0) 0 (in-both t i h .1) k }
 
 pub gcra-stored : Stored columns
 unfolding columns
@@ -38,9 +38,11 @@ gcra-stored =
     record {
       ids-zeros = ids-zeros;
       ids-length = ids-length;
-      slots-put = λ t i subscriber tat. ap₂ (λ (a b : ℕ). common a b) (length-set (t .ids) i subscriber) (length-set (t .tats) i (tat .0));
-      ids-put = λ t i subscriber tat. refl;
+      slots-put = λ t i subscriber moment tat. ap₂ (λ (a b : ℕ). common a b) (length-set (t .ids) i subscriber) (length-set (t .tats) i (tat .0));
+      ids-put = λ t i subscriber moment tat. refl;
       row-same = row-same;
-      row-other = λ t i j subscriber tat h k. record { 0 = getD-set-other (t .tats) i j (tat .0) 0 h k };
+      row-other = λ t i j subscriber moment tat h k. record { 0 = getD-set-other (t .tats) i j (tat .0) 0 h k };
+      newest-put = λ t i subscriber moment tat. refl;
+      newest-zeros = λ t. refl;
       slots-zeros = λ t. ap₂ (λ (a b : ℕ). common a b) (length-replicate (length (t .ids)) 0) (length-replicate (length (t .tats)) 0);
     }

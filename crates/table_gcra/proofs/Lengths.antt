@@ -19,30 +19,30 @@ use Rattle.table.proofs.Slots.{common-same}
 use Rattle.table.proofs.Writes.{denied-changes-nothing, admission-writes-one}
 use Rattle.table_gcra.specs.Table.{Table, tableOf, columns, rule, acquire, clear}
 
-pub all-slots : (ids tats : List ℕ) → length ids ≡ length tats → columns .slots (tableOf ids tats) ≡ length ids
+pub all-slots : (t : Table) → length (t .ids) ≡ length (t .tats) → columns .slots t ≡ length (t .ids)
 unfolding columns
-all-slots ids tats equal = common-same (length ids) (length tats) equal
+all-slots t equal = common-same (length (t .ids)) (length (t .tats)) equal
 
 -- a clear of so many slots
-module _ (ids tats : List ℕ) {slots : ℕ} (i : length ids ≡ slots) (j : length tats ≡ slots) where
-  slots-are : columns .slots (tableOf ids tats) ≡ slots
-  slots-are = all-slots ids tats (i ∙ sym j) ∙ i
+module _ (ids tats : List ℕ) (newest : ℕ) {slots : ℕ} (i : length ids ≡ slots) (j : length tats ≡ slots) where
+  slots-are : columns .slots (tableOf ids tats newest) ≡ slots
+  slots-are = all-slots (tableOf ids tats newest) (i ∙ sym j) ∙ i
 
-  zeros-are : columns .zeros (tableOf ids tats) ≡ tableOf (replicate slots 0) (replicate slots 0)
+  zeros-are : columns .zeros (tableOf ids tats newest) ≡ tableOf (replicate slots 0) (replicate slots 0) 0
   unfolding columns
-  zeros-are = ap₂ (λ (n m : ℕ). tableOf (replicate n 0) (replicate m 0)) i j
+  zeros-are = ap₂ (λ (n m : ℕ). tableOf (replicate n 0) (replicate m 0) 0) i j
 
   pub clear-zeros :
       slotsOk slots ≡ true →
-      clear (tableOf ids tats)
-      ≡ record { answer = answered 0 (bare 0); after = tableOf (replicate slots 0) (replicate slots 0) }
+      clear (tableOf ids tats newest)
+      ≡ record { answer = answered 0 (bare 0); after = tableOf (replicate slots 0) (replicate slots 0) 0 }
   clear-zeros e =
-      clear-done columns (tableOf ids tats) (ap slotsOk slots-are ∙ e)
+      clear-done columns (tableOf ids tats newest) (ap slotsOk slots-are ∙ e)
       ∙ ap (λ (t : Table). record { answer = answered 0 (bare 0); after = t }) zeros-are
 
   pub clear-refuses :
-      slotsOk slots ≡ false → clear (tableOf ids tats) ≡ record { answer = answered 0 (bare 2); after = tableOf ids tats }
-  clear-refuses e = clear-unfit columns (tableOf ids tats) (ap slotsOk slots-are ∙ e)
+      slotsOk slots ≡ false → clear (tableOf ids tats newest) ≡ record { answer = answered 0 (bare 2); after = tableOf ids tats newest }
+  clear-refuses e = clear-unfit columns (tableOf ids tats newest) (ap slotsOk slots-are ∙ e)
 
 -- two tables with columns of the same lengths
 pub record SameLengths (t u : Table) : Type 0 where
@@ -52,9 +52,9 @@ pub record SameLengths (t u : Table) : Type 0 where
 pub same-lengths : (t : Table) → SameLengths t t
 same-lengths t = record { ids = refl; tats = refl }
 
-put-lengths : (t : Table) (i subscriber : ℕ) (tat : Ticks) → SameLengths (columns .put t i subscriber tat) t
+put-lengths : (t : Table) (i subscriber moment : ℕ) (tat : Ticks) → SameLengths (columns .put t i subscriber moment tat) t
 unfolding columns
-put-lengths t i subscriber tat =
+put-lengths t i subscriber moment tat =
     record { ids = length-set (t .ids) i subscriber; tats = length-set (t .tats) i (tat .0) }
 
 pub acquire-lengths : (r : Request Plan) (t : Table) → SameLengths (acquire r t .after) t
@@ -63,6 +63,6 @@ acquire-lengths r t = by (eqb (acquire r t .answer .number) 0) refl
     by : (b : Bool) → eqb (acquire r t .answer .number) 0 ≡ b → SameLengths (acquire r t .after) t
     by true e =
         let a = admission-writes-one rule columns r t (eqb-true _ _ e) in
-        subst (λ (u : Table). SameLengths u t) (sym (a .after)) (put-lengths t (a .place) (r .query .subscriber) (a .held))
+        subst (λ (u : Table). SameLengths u t) (sym (a .after)) (put-lengths t (a .place) (r .query .subscriber) (r .query .moment) (a .held))
     by false e =
         subst (λ (u : Table). SameLengths u t) (sym (denied-changes-nothing rule columns r t e)) (same-lengths t)

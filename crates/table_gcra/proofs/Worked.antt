@@ -15,6 +15,6 @@ use Rattle.table.specs.Calls.{ruled, newcomer, judgeIn, commit, slotFrom, slotF
 use Rattle.table.specs.Worked.{plan, ask, asks, line, answers, burstAnswer, nobodyAnswer, played, examples, expected}
 use Rattle.table_gcra.specs.Table.{tableOf, columns, rule}
 
-pub worked : (id tat : ℕ) → examples rule columns (tableOf (id ∷ []) (tat ∷ [])) ≡ expected
+pub worked : (id tat newest : ℕ) → examples rule columns (tableOf (id ∷ []) (tat ∷ []) newest) ≡ expected
 unfolding answered remaining resetAt retryAfter bare reported admitted throttled soundness guard judge settled gcra fresh sound free later backlog admits spend ticksIn price capacity divUp oneTo planOk onClock slotsOk queryCheck costCheck requestCheck common seekFrom seek carries own vacant lowestFree ruled newcomer judgeIn commit slotFrom slotFor judgeCall acquire clear plan ask asks line answers burstAnswer nobodyAnswer played examples expected columns
-worked id tat = refl
+worked id tat newest = refl

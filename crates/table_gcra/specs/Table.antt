@@ -1,5 +1,5 @@
--- The GCRA engine's table (document 01, 'Seats'): the subscribers' numbers and the TATs, in ticks. Its calls are the
--- table's, by the rule of GCRA.
+-- The GCRA engine's table (document 01, 'Seats'): the subscribers' numbers, the TATs, in ticks, and the newest moment
+-- (document 02, Item 6). Its calls are the table's, by the rule of GCRA.
 use Prim.Native.Nat.{ℕ}
 use mathlib.Core.List.{List}
 use lib.ListN.{length, getD, set, replicate}
@@ -19,9 +19,14 @@ use Rattle.table_gcra.specs.declared.slot.Slot as slot
 pub record Table : Type 0 where
   pub ids : List ℕ
   pub tats : List ℕ
+  pub newest : ℕ
 
-abbrev pub tableOf : List ℕ → List ℕ → Table
-tableOf ids tats = record { ids = ids; tats = tats }
+abbrev pub tableOf : List ℕ → List ℕ → ℕ → Table
+tableOf ids tats newest = record { ids = ids; tats = tats; newest = newest }
+
+-- the columns alone: no search reads the newest moment
+abbrev pub columnsOf : List ℕ → List ℕ → Table
+columnsOf ids tats = tableOf ids tats 0
 
 unfoldable pub columns : Columns Table Ticks
 columns =
@@ -29,8 +34,9 @@ columns =
       slots = λ t. common (length (t .ids)) (length (t .tats));
       ids = λ t. t .ids;
       row = λ t i. record { 0 = getD (t .tats) i 0 };
-      put = λ t i subscriber tat. tableOf (set (t .ids) i subscriber) (set (t .tats) i (tat .0));
-      zeros = λ t. tableOf (replicate (length (t .ids)) 0) (replicate (length (t .tats)) 0);
+      newest = λ t. t .newest;
+      put = λ t i subscriber moment tat. tableOf (set (t .ids) i subscriber) (set (t .tats) i (tat .0)) moment;
+      zeros = λ t. tableOf (replicate (length (t .ids)) 0) (replicate (length (t .tats)) 0) 0;
     }
 
 -- GCRA under one plan

@@ -1,11 +1,12 @@
 // The GCRA engine (document 01's paced engine) over columns that a host lends: `ids` holds the subscribers' numbers, 0 in
-// an empty slot, and `tats` the TATs, in ticks of the plan. Any values may be passed, damaged tables too.
+// an empty slot, and `tats` the TATs, in ticks of the plan; beside them `newest`, the newest moment at which anything was
+// admitted. Any values may be passed, damaged tables too.
 //
 //   acquire   decides, and spends if it admits (document 01's ask)
 //   peek      reports, and spends nothing (look)
-//   clear     makes every column all zeros
+//   clear     makes every column all zeros, and the newest moment 0
 //
-// Only an acquire that is admitted writes, and only in the subscriber's own slot.
+// Only an acquire that is admitted writes, and only in the subscriber's own slot and the newest moment.
 ghost use mathlib.Core.Path.{_≡_};
 ghost use Rattle.rate.specs.Answer.{numbersOf, clearedNumbers};
 ghost use Rattle.table.specs.Request.{queryOf, requestOf};
@@ -31,16 +32,19 @@ pub fn acquire(
     plan: Plan,
     ids: &mut [u32],
     tats: &mut [u64],
+    newest: &mut u64,
     moment: Millis,
     subscriber: u32,
     cost: u32,
 ) -> Answer
     ensures { λ r. ⌜ numbersOf r ≡ acquire (requestOf plan (moment .0) subscriber cost)
-        (tableOf (now (ids .entry)) (now (tats .entry))) .answer ⌝ }
-    ensures { λ r. ⌜ tableOf (now (ids .exit)) (now (tats .exit)) ≡ acquire (requestOf plan (moment .0) subscriber cost)
-        (tableOf (now (ids .entry)) (now (tats .entry))) .after ⌝ }
+        (tableOf (now (ids .entry)) (now (tats .entry)) (now (newest .entry))) .answer ⌝ }
+    ensures { λ r. ⌜ tableOf (now (ids .exit)) (now (tats .exit)) (now (newest .exit))
+        ≡ acquire (requestOf plan (moment .0) subscriber cost)
+        (tableOf (now (ids .entry)) (now (tats .entry)) (now (newest .entry))) .after ⌝ }
 {
-    match ruling::judge(plan, ids, tats, moment, subscriber, cost) {
+    let since = Millis(*newest);
+    match ruling::judge(plan, ids, tats, since, moment, subscriber, cost) {
         Ruling::Keep(outcome) => Answer {
             subscriber,
             outcome,
@@ -52,6 +56,7 @@ pub fn acquire(
         } => {
             ids[place] = subscriber;
             tats[place] = tat.0;
+            *newest = moment.0;
             Answer {
                 subscriber,
                 outcome,
@@ -61,12 +66,20 @@ pub fn acquire(
 }
 
 // What the subscriber has left at the moment, and when it has everything again. Without a slot the bucket is full.
-pub fn peek(plan: Plan, ids: &[u32], tats: &[u64], moment: Millis, subscriber: u32) -> Answer
+pub fn peek(
+    plan: Plan,
+    ids: &[u32],
+    tats: &[u64],
+    newest: &u64,
+    moment: Millis,
+    subscriber: u32,
+) -> Answer
     ensures { λ r. ⌜ numbersOf r ≡ peek (queryOf plan (moment .0) subscriber)
-        (tableOf (now (ids .entry)) (now (tats .entry))) .answer ⌝ }
+        (tableOf (now (ids .entry)) (now (tats .entry)) (now (newest .entry))) .answer ⌝ }
 {
+    let since = Millis(*newest);
     let slots = columns::common(ids.len(), tats.len());
-    if let Check::Failed(reason) = check::query(plan.is_ok(), slots, moment, subscriber) {
+    if let Check::Failed(reason) = check::query(plan.is_ok(), slots, since, moment, subscriber) {
         return Answer {
             subscriber,
             outcome: Outcome::Refused(reason),
@@ -84,11 +97,11 @@ pub fn peek(plan: Plan, ids: &[u32], tats: &[u64], moment: Millis, subscriber: u
     }
 }
 
-// Makes every column all zeros, if the columns are a table.
-pub fn clear(ids: &mut [u32], tats: &mut [u64]) -> Cleared
-    ensures { λ r. ⌜ clearedNumbers r ≡ clear (tableOf (now (ids .entry)) (now (tats .entry))) .answer ⌝ }
-    ensures { λ r. ⌜ tableOf (now (ids .exit)) (now (tats .exit)) ≡ clear
-        (tableOf (now (ids .entry)) (now (tats .entry))) .after ⌝ }
+// Makes every column all zeros and the newest moment 0, if the columns are a table.
+pub fn clear(ids: &mut [u32], tats: &mut [u64], newest: &mut u64) -> Cleared
+    ensures { λ r. ⌜ clearedNumbers r ≡ clear (tableOf (now (ids .entry)) (now (tats .entry)) (now (newest .entry))) .answer ⌝ }
+    ensures { λ r. ⌜ tableOf (now (ids .exit)) (now (tats .exit)) (now (newest .exit)) ≡ clear
+        (tableOf (now (ids .entry)) (now (tats .entry)) (now (newest .entry))) .after ⌝ }
 {
     let slots = columns::common(ids.len(), tats.len());
     if !check::is_slot_count(slots) {
@@ -96,5 +109,6 @@ pub fn clear(ids: &mut [u32], tats: &mut [u64]) -> Cleared
     }
     columns::zero_u32(ids);
     columns::zero_u64(tats);
+    *newest = 0;
     Cleared::Done
 }

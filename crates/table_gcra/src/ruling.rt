@@ -24,22 +24,24 @@ pub enum Ruling {
     },
 }
 
-// Checks 1 to 6; then the record in its slot, of which there may be none. Only an admission writes.
+// The checks; then the record in its slot, of which there may be none. Only an admission writes.
 pub fn judge(
     plan: Plan,
     ids: &[u32],
     tats: &[u64],
+    newest: Millis,
     moment: Millis,
     subscriber: u32,
     cost: u32,
 ) -> Ruling
     ensures { λ r. ⌜ rulingOf r ≡ judgeCall rule columns (requestOf plan (moment .0) subscriber cost)
-        (tableOf (now (ids .entry)) (now (tats .entry))) ⌝ }
+        (tableOf (now (ids .entry)) (now (tats .entry)) (newest .0)) ⌝ }
 {
     let slots = columns::common(ids.len(), tats.len());
     if let Check::Failed(reason) = check::request(
         plan.is_ok(),
         slots,
+        newest,
         moment,
         subscriber,
         plan.burst,

@@ -6,7 +6,7 @@ ghost use Rattle.ticks.specs.Grains.{InForce};
 ghost use Rattle.table.specs.Request.{queryOf};
 ghost use Rattle.table.specs.Slots.{vacant, lowestFree, seek, NoneBelow};
 ghost use Rattle.table.specs.Calls.{slotFor};
-ghost use Rattle.table_gcra.specs.Table.{tableOf, columns, rule, slotOf};
+ghost use Rattle.table_gcra.specs.Table.{columnsOf, columns, rule, slotOf};
 use table::search;
 use table::search::Place;
 use ticks::plan::Plan;
@@ -30,9 +30,9 @@ fn free_between(
 ) -> Place
     requires { ⌜ length (now ids) ≡ length (now tats) ⌝ }
     requires { ⌜ to ≤ length (now ids) ⌝ }
-    requires { ⌜ NoneBelow (vacant rule columns plan (moment .0) (tableOf (now ids) (now tats))) from ⌝ }
+    requires { ⌜ NoneBelow (vacant rule columns plan (moment .0) (columnsOf (now ids) (now tats))) from ⌝ }
     ensures { λ r. ⌜ r ≡ seek (vacant rule columns plan (moment .0)
-        (tableOf (now (ids .entry)) (now (tats .entry)))) to ⌝ }
+        (columnsOf (now (ids .entry)) (now (tats .entry)))) to ⌝ }
 {
     let mut i = from;
     loop {
@@ -54,7 +54,7 @@ fn lowest_free(plan: Plan, ids: &[u32], tats: &[u64], moment: Millis) -> Place
     requires { ⌜ length (now ids) ≡ length (now tats) ⌝ }
     requires { ⌜ InForce plan (moment .0) ⌝ }
     ensures { λ r. ⌜ r ≡ lowestFree rule columns plan (moment .0)
-        (tableOf (now (ids .entry)) (now (tats .entry))) ⌝ }
+        (columnsOf (now (ids .entry)) (now (tats .entry))) ⌝ }
 {
     let drained = plan.ticks_in(moment);
     let mut at = 0;
@@ -76,7 +76,7 @@ pub fn slot_for(plan: Plan, ids: &[u32], tats: &[u64], moment: Millis, subscribe
     requires { ⌜ length (now ids) ≡ length (now tats) ⌝ }
     requires { ⌜ InForce plan (moment .0) ⌝ }
     ensures { λ r. ⌜ slotOf r ≡ slotFor rule columns (queryOf plan (moment .0) subscriber)
-        (tableOf (now (ids .entry)) (now (tats .entry))) ⌝ }
+        (columnsOf (now (ids .entry)) (now (tats .entry))) ⌝ }
 {
     if let Place::At(own) = search::find(ids, subscriber) {
         return Slot::At {

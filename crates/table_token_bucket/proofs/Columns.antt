@@ -35,20 +35,20 @@ equal t h =
     let both : first ≡ length (t .ids) = common-same (length (t .ids)) (length (t .levels)) inner in
     record { ids = omega arith; levels = omega arith; lasts = omega arith }
 
-pub even : (t : Table) (g : Gate) → g .slots ≡ columns .slots t → Asked g → Even t
+pub even : (t : Table) (g : Gate) → g .slots ≡ columns .slots t → Asked g → Even (t .ids) (t .levels) (t .lasts)
 even t g count asked =
     let e = equal t (omega (arith, count, slots-least (g .slots) (asked .table))) in
-    record { levels = omega (arith, e .ids, e .levels); lasts = omega (arith, e .ids, e .lasts) }
+    record { to-levels = omega (arith, e .ids, e .levels); to-lasts = omega (arith, e .ids, e .lasts) }
 
-pub all-slots : (t : Table) → Even t → columns .slots t ≡ length (t .ids)
+pub all-slots : (t : Table) → Even (t .ids) (t .levels) (t .lasts) → columns .slots t ≡ length (t .ids)
 unfolding columns
 all-slots t e =
-    let two = common-same (length (t .ids)) (length (t .levels)) (e .levels) in
-    common-same _ (length (t .lasts)) (two ∙ e .lasts) ∙ two
+    let two = common-same (length (t .ids)) (length (t .levels)) (e .to-levels) in
+    common-same _ (length (t .lasts)) (two ∙ e .to-lasts) ∙ two
 
 -- a place among the ids is within the other columns
-pub within : {t : Table} {i : ℕ} → Even t → i < length (t .ids) → Within (t .levels) (t .lasts) i
-within e h = record { in-levels = omega (arith, e .levels); in-lasts = omega (arith, e .lasts) }
+pub within : {ids levels lasts : List ℕ} {i : ℕ} → Even ids levels lasts → i < length ids → Within levels lasts i
+within e h = record { in-levels = omega (arith, e .to-levels); in-lasts = omega (arith, e .to-lasts) }
 
 -- the place of a slot lies within all columns
 pub in-all : (t : Table) (i : ℕ) → i < columns .slots t → (i < length (t .ids)) × Within (t .levels) (t .lasts) i
@@ -64,14 +64,14 @@ unfolding columns
 counted t first both = both ∙ ap (λ (n : ℕ). common n (length (t .lasts))) first
 
 pub same-table :
-    {ids ids′ levels levels′ lasts lasts′ : List ℕ} → ids ≡ ids′ → levels ≡ levels′ → lasts ≡ lasts′ →
-    tableOf ids levels lasts ≡ tableOf ids′ levels′ lasts′
-same-table a b c k = tableOf (a k) (b k) (c k)
+    (newest : ℕ) {ids ids′ levels levels′ lasts lasts′ : List ℕ} → ids ≡ ids′ → levels ≡ levels′ → lasts ≡ lasts′ →
+    tableOf ids levels lasts newest ≡ tableOf ids′ levels′ lasts′ newest
+same-table newest a b c k = tableOf (a k) (b k) (c k) newest
 
 row-same :
-    (t : Table) (i subscriber : ℕ) (b : Bucket) → i < columns .slots t → columns .row (columns .put t i subscriber b) i ≡ b
+    (t : Table) (i subscriber moment : ℕ) (b : Bucket) → i < columns .slots t → columns .row (columns .put t i subscriber moment b) i ≡ b
 unfolding columns
-row-same t i subscriber b h =
+row-same t i subscriber moment b h =
     let e = equal t (omega arith) in
     let level = getD-set-same (t .levels) i (b .level .0) 0 (omega (arith, e .levels)) in
     let last = getD-set-same (t .lasts) i (b .last .0) 0 (omega (arith, e .lasts)) in
@@ -85,15 +85,17 @@ unfolding columns
 token-bucket-stored =
     record {
       ids-length = λ t h. equal t h .ids;
-      slots-put = λ t i subscriber b.
+      slots-put = λ t i subscriber moment b.
           three _ _ _ _ _ _ (length-set (t .ids) i subscriber) (length-set (t .levels) i (b .level .0)) (length-set (t .lasts) i (b .last .0));
-      ids-put = λ t i subscriber b. refl;
+      ids-put = λ t i subscriber moment b. refl;
       row-same = row-same;
-      row-other = λ t i j subscriber b h k.
+      row-other = λ t i j subscriber moment b h k.
           record {
             level = record { 0 = getD-set-other (t .levels) i j (b .level .0) 0 h k };
             last = record { 0 = getD-set-other (t .lasts) i j (b .last .0) 0 h k };
           };
+      newest-put = λ t i subscriber moment b. refl;
+      newest-zeros = λ t. refl;
       slots-zeros = λ t.
           three _ _ _ _ _ _ (length-replicate (length (t .ids)) 0) (length-replicate (length (t .levels)) 0) (length-replicate (length (t .lasts)) 0);
       ids-zeros = ids-zeros;

@@ -16,6 +16,6 @@ use Rattle.table.specs.Calls.{ruled, newcomer, judgeIn, commit, slotFrom, slotF
 use Rattle.table.specs.Worked.{plan, ask, asks, line, answers, burstAnswer, nobodyAnswer, played, examples, expected}
 use Rattle.table_token_bucket.specs.Table.{tableOf, columns, rule}
 
-pub worked : (id level last : ℕ) → examples rule columns (tableOf (id ∷ []) (level ∷ []) (last ∷ [])) ≡ expected
+pub worked : (id level last newest : ℕ) → examples rule columns (tableOf (id ∷ []) (level ∷ []) (last ∷ []) newest) ≡ expected
 unfolding answered remaining resetAt retryAfter bare reported admitted throttled soundness guard judge settled ticksIn price capacity divUp oneTo planOk onClock tokenBucket fresh sound refilled free levelNow backlog admits spend slotsOk queryCheck costCheck requestCheck common seekFrom seek carries own vacant lowestFree ruled newcomer judgeIn commit slotFrom slotFor judgeCall acquire clear plan ask asks line answers burstAnswer nobodyAnswer played examples expected columns
-worked id level last = refl
+worked id level last newest = refl

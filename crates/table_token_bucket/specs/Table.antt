@@ -1,5 +1,6 @@
--- The token bucket engine's table (document 01, 'Seats'): the subscribers' numbers, the levels, in ticks, and the moments of
--- the last admission, in milliseconds. Its calls are the table's, by the rule of the token bucket.
+-- The token bucket engine's table (document 01, 'Seats'): the subscribers' numbers, the levels, in ticks, the moments of the
+-- last admission, in milliseconds, and the newest moment (document 02, Item 6). Its calls are the table's, by the rule of the
+-- token bucket.
 use Prim.Native.Nat.{ℕ, _<_}
 use mathlib.Core.Path.{_≡_}
 use mathlib.Core.List.{List}
@@ -21,9 +22,14 @@ pub record Table : Type 0 where
   pub ids : List ℕ
   pub levels : List ℕ
   pub lasts : List ℕ
+  pub newest : ℕ
 
-abbrev pub tableOf : List ℕ → List ℕ → List ℕ → Table
-tableOf ids levels lasts = record { ids = ids; levels = levels; lasts = lasts }
+abbrev pub tableOf : List ℕ → List ℕ → List ℕ → ℕ → Table
+tableOf ids levels lasts newest = record { ids = ids; levels = levels; lasts = lasts; newest = newest }
+
+-- the columns alone: no search reads the newest moment
+abbrev pub columnsOf : List ℕ → List ℕ → List ℕ → Table
+columnsOf ids levels lasts = tableOf ids levels lasts 0
 
 -- the record of a slot
 abbrev pub bucketAt : List ℕ → List ℕ → ℕ → Bucket
@@ -35,9 +41,10 @@ columns =
       slots = λ t. common (common (length (t .ids)) (length (t .levels))) (length (t .lasts));
       ids = λ t. t .ids;
       row = λ t i. bucketAt (t .levels) (t .lasts) i;
-      put = λ t i subscriber b.
-          tableOf (set (t .ids) i subscriber) (set (t .levels) i (b .level .0)) (set (t .lasts) i (b .last .0));
-      zeros = λ t. tableOf (replicate (length (t .ids)) 0) (replicate (length (t .levels)) 0) (replicate (length (t .lasts)) 0);
+      newest = λ t. t .newest;
+      put = λ t i subscriber moment b.
+          tableOf (set (t .ids) i subscriber) (set (t .levels) i (b .level .0)) (set (t .lasts) i (b .last .0)) moment;
+      zeros = λ t. tableOf (replicate (length (t .ids)) 0) (replicate (length (t .levels)) 0) (replicate (length (t .lasts)) 0) 0;
     }
 
 -- the token bucket under one plan
@@ -66,9 +73,9 @@ rulingOf (ruling.the-variants.Keep outcome) = calls.keep (verdictOf outcome)
 rulingOf (ruling.the-variants.Write outcome place bucket) = calls.write (verdictOf outcome) place bucket
 
 -- what the searches require: the columns are equally long
-pub record Even (t : Table) : Type 0 where
-  pub levels : length (t .ids) ≡ length (t .levels)
-  pub lasts : length (t .ids) ≡ length (t .lasts)
+pub record Even (ids levels lasts : List ℕ) : Type 0 where
+  pub to-levels : length ids ≡ length levels
+  pub to-lasts : length ids ≡ length lasts
 
 -- what reading a record requires: its place is within both columns
 pub record Within (levels lasts : List ℕ) (place : ℕ) : Type 0 where

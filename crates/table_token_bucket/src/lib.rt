@@ -1,12 +1,13 @@
 // The token bucket engine (document 01's bucket engine) over columns that a host lends: `ids` holds the subscribers'
 // numbers, 0 in an empty slot, `levels` what an admission left in the bucket, in ticks of the plan, and `lasts` the moments
-// of these admissions, in milliseconds. Any values may be passed, damaged tables too.
+// of these admissions, in milliseconds; beside them `newest`, the newest moment at which anything was admitted. Any values may
+// be passed, damaged tables too.
 //
 //   acquire   decides, and spends if it admits (document 01's ask)
 //   peek      reports, and spends nothing (look)
-//   clear     makes every column all zeros
+//   clear     makes every column all zeros, and the newest moment 0
 //
-// Only an acquire that is admitted writes, and only in the subscriber's own slot.
+// Only an acquire that is admitted writes, and only in the subscriber's own slot and the newest moment.
 ghost use mathlib.Core.Path.{_≡_};
 ghost use Rattle.rate.specs.Answer.{numbersOf, clearedNumbers};
 ghost use Rattle.table.specs.Request.{queryOf, requestOf};
@@ -32,17 +33,19 @@ pub fn acquire(
     ids: &mut [u32],
     levels: &mut [u64],
     lasts: &mut [u64],
+    newest: &mut u64,
     moment: Millis,
     subscriber: u32,
     cost: u32,
 ) -> Answer
     ensures { λ r. ⌜ numbersOf r ≡ acquire (requestOf plan (moment .0) subscriber cost)
-        (tableOf (now (ids .entry)) (now (levels .entry)) (now (lasts .entry))) .answer ⌝ }
-    ensures { λ r. ⌜ tableOf (now (ids .exit)) (now (levels .exit)) (now (lasts .exit))
+        (tableOf (now (ids .entry)) (now (levels .entry)) (now (lasts .entry)) (now (newest .entry))) .answer ⌝ }
+    ensures { λ r. ⌜ tableOf (now (ids .exit)) (now (levels .exit)) (now (lasts .exit)) (now (newest .exit))
         ≡ acquire (requestOf plan (moment .0) subscriber cost)
-        (tableOf (now (ids .entry)) (now (levels .entry)) (now (lasts .entry))) .after ⌝ }
+        (tableOf (now (ids .entry)) (now (levels .entry)) (now (lasts .entry)) (now (newest .entry))) .after ⌝ }
 {
-    match ruling::judge(plan, ids, levels, lasts, moment, subscriber, cost) {
+    let since = Millis(*newest);
+    match ruling::judge(plan, ids, levels, lasts, since, moment, subscriber, cost) {
         Ruling::Keep(outcome) => Answer {
             subscriber,
             outcome,
@@ -57,6 +60,7 @@ pub fn acquire(
             ids[place] = subscriber;
             levels[place] = level.0;
             lasts[place] = last.0;
+            *newest = moment.0;
             Answer {
                 subscriber,
                 outcome,
@@ -71,14 +75,16 @@ pub fn peek(
     ids: &[u32],
     levels: &[u64],
     lasts: &[u64],
+    newest: &u64,
     moment: Millis,
     subscriber: u32,
 ) -> Answer
     ensures { λ r. ⌜ numbersOf r ≡ peek (queryOf plan (moment .0) subscriber)
-        (tableOf (now (ids .entry)) (now (levels .entry)) (now (lasts .entry))) .answer ⌝ }
+        (tableOf (now (ids .entry)) (now (levels .entry)) (now (lasts .entry)) (now (newest .entry))) .answer ⌝ }
 {
+    let since = Millis(*newest);
     let slots = columns::common(columns::common(ids.len(), levels.len()), lasts.len());
-    if let Check::Failed(reason) = check::query(plan.is_ok(), slots, moment, subscriber) {
+    if let Check::Failed(reason) = check::query(plan.is_ok(), slots, since, moment, subscriber) {
         return Answer {
             subscriber,
             outcome: Outcome::Refused(reason),
@@ -100,12 +106,12 @@ pub fn peek(
     }
 }
 
-// Makes every column all zeros, if the columns are a table.
-pub fn clear(ids: &mut [u32], levels: &mut [u64], lasts: &mut [u64]) -> Cleared
+// Makes every column all zeros and the newest moment 0, if the columns are a table.
+pub fn clear(ids: &mut [u32], levels: &mut [u64], lasts: &mut [u64], newest: &mut u64) -> Cleared
     ensures { λ r. ⌜ clearedNumbers r ≡ clear
-        (tableOf (now (ids .entry)) (now (levels .entry)) (now (lasts .entry))) .answer ⌝ }
-    ensures { λ r. ⌜ tableOf (now (ids .exit)) (now (levels .exit)) (now (lasts .exit)) ≡ clear
-        (tableOf (now (ids .entry)) (now (levels .entry)) (now (lasts .entry))) .after ⌝ }
+        (tableOf (now (ids .entry)) (now (levels .entry)) (now (lasts .entry)) (now (newest .entry))) .answer ⌝ }
+    ensures { λ r. ⌜ tableOf (now (ids .exit)) (now (levels .exit)) (now (lasts .exit)) (now (newest .exit)) ≡ clear
+        (tableOf (now (ids .entry)) (now (levels .entry)) (now (lasts .entry)) (now (newest .entry))) .after ⌝ }
 {
     let slots = columns::common(columns::common(ids.len(), levels.len()), lasts.len());
     if !check::is_slot_count(slots) {
@@ -114,5 +120,6 @@ pub fn clear(ids: &mut [u32], levels: &mut [u64], lasts: &mut [u64]) -> Cleared
     columns::zero_u32(ids);
     columns::zero_u64(levels);
     columns::zero_u64(lasts);
+    *newest = 0;
     Cleared::Done
 }

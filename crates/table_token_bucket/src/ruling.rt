@@ -24,23 +24,25 @@ pub enum Ruling {
     },
 }
 
-// Checks 1 to 6; then the record in its slot, of which there may be none. Only an admission writes.
+// The checks; then the record in its slot, of which there may be none. Only an admission writes.
 pub fn judge(
     plan: Plan,
     ids: &[u32],
     levels: &[u64],
     lasts: &[u64],
+    newest: Millis,
     moment: Millis,
     subscriber: u32,
     cost: u32,
 ) -> Ruling
     ensures { λ r. ⌜ rulingOf r ≡ judgeCall rule columns (requestOf plan (moment .0) subscriber cost)
-        (tableOf (now (ids .entry)) (now (levels .entry)) (now (lasts .entry))) ⌝ }
+        (tableOf (now (ids .entry)) (now (levels .entry)) (now (lasts .entry)) (newest .0)) ⌝ }
 {
     let slots = columns::common(columns::common(ids.len(), levels.len()), lasts.len());
     if let Check::Failed(reason) = check::request(
         plan.is_ok(),
         slots,
+        newest,
         moment,
         subscriber,
         plan.burst,

@@ -8,7 +8,7 @@ ghost use Rattle.ticks.specs.Grains.{InForce};
 ghost use Rattle.table.specs.Request.{queryOf};
 ghost use Rattle.table.specs.Slots.{vacant, lowestFree, seek, NoneFrom, NoneBelow};
 ghost use Rattle.table.specs.Calls.{slotFor};
-ghost use Rattle.table_token_bucket.specs.Table.{tableOf, columns, rule, bucketAt, slotOf, Even, Within};
+ghost use Rattle.table_token_bucket.specs.Table.{columnsOf, columns, rule, bucketAt, slotOf, Even, Within};
 use rule_token_bucket::Bucket;
 use table::search;
 use table::search::Place;
@@ -46,11 +46,11 @@ fn may_be_vacant(
     from: usize,
     to: usize,
 ) -> bool
-    requires { ⌜ Even (tableOf (now ids) (now levels) (now lasts)) ⌝ }
+    requires { ⌜ Even (now ids) (now levels) (now lasts) ⌝ }
     requires { ⌜ to ≤ length (now ids) ⌝ }
     requires { ⌜ InForce plan (moment .0) ⌝ }
     ensures { λ r. ⌜ (r ≡ false → NoneFrom (vacant rule columns plan (moment .0)
-        (tableOf (now (ids .entry)) (now (levels .entry)) (now (lasts .entry)))) from to) ⌝ }
+        (columnsOf (now (ids .entry)) (now (levels .entry)) (now (lasts .entry)))) from to) ⌝ }
 {
     let mut may = search::may_carry(ids, from, to, 0);
     let mut i = from;
@@ -70,12 +70,12 @@ fn skip(
     moment: Millis,
     from: usize,
 ) -> usize
-    requires { ⌜ Even (tableOf (now ids) (now levels) (now lasts)) ⌝ }
+    requires { ⌜ Even (now ids) (now levels) (now lasts) ⌝ }
     requires { ⌜ from ≤ length (now ids) ⌝ }
     requires { ⌜ InForce plan (moment .0) ⌝ }
     ensures { λ r. ⌜ (from ≤ r) × (r ≤ length (now (ids .entry))) ⌝ }
     ensures { λ r. ⌜ NoneFrom (vacant rule columns plan (moment .0)
-        (tableOf (now (ids .entry)) (now (levels .entry)) (now (lasts .entry)))) from r ⌝ }
+        (columnsOf (now (ids .entry)) (now (levels .entry)) (now (lasts .entry)))) from r ⌝ }
 {
     let mut at = from;
     while BLOCK <= ids.len() - at
@@ -96,11 +96,11 @@ fn free_between(
     from: usize,
     to: usize,
 ) -> Place
-    requires { ⌜ Even (tableOf (now ids) (now levels) (now lasts)) ⌝ }
+    requires { ⌜ Even (now ids) (now levels) (now lasts) ⌝ }
     requires { ⌜ to ≤ length (now ids) ⌝ }
-    requires { ⌜ NoneBelow (vacant rule columns plan (moment .0) (tableOf (now ids) (now levels) (now lasts))) from ⌝ }
+    requires { ⌜ NoneBelow (vacant rule columns plan (moment .0) (columnsOf (now ids) (now levels) (now lasts))) from ⌝ }
     ensures { λ r. ⌜ r ≡ seek (vacant rule columns plan (moment .0)
-        (tableOf (now (ids .entry)) (now (levels .entry)) (now (lasts .entry)))) to ⌝ }
+        (columnsOf (now (ids .entry)) (now (levels .entry)) (now (lasts .entry)))) to ⌝ }
 {
     let mut i = from;
     loop {
@@ -119,10 +119,10 @@ fn free_between(
 
 // The lowest free slot. Blocks in which none may be free are passed over whole.
 fn lowest_free(plan: Plan, ids: &[u32], levels: &[u64], lasts: &[u64], moment: Millis) -> Place
-    requires { ⌜ Even (tableOf (now ids) (now levels) (now lasts)) ⌝ }
+    requires { ⌜ Even (now ids) (now levels) (now lasts) ⌝ }
     requires { ⌜ InForce plan (moment .0) ⌝ }
     ensures { λ r. ⌜ r ≡ lowestFree rule columns plan (moment .0)
-        (tableOf (now (ids .entry)) (now (levels .entry)) (now (lasts .entry))) ⌝ }
+        (columnsOf (now (ids .entry)) (now (levels .entry)) (now (lasts .entry))) ⌝ }
 {
     let mut at = 0;
     loop {
@@ -147,10 +147,10 @@ pub fn slot_for(
     moment: Millis,
     subscriber: u32,
 ) -> Slot
-    requires { ⌜ Even (tableOf (now ids) (now levels) (now lasts)) ⌝ }
+    requires { ⌜ Even (now ids) (now levels) (now lasts) ⌝ }
     requires { ⌜ InForce plan (moment .0) ⌝ }
     ensures { λ r. ⌜ slotOf r ≡ slotFor rule columns (queryOf plan (moment .0) subscriber)
-        (tableOf (now (ids .entry)) (now (levels .entry)) (now (lasts .entry))) ⌝ }
+        (columnsOf (now (ids .entry)) (now (levels .entry)) (now (lasts .entry))) ⌝ }
 {
     if let Place::At(own) = search::find(ids, subscriber) {
         return Slot::At {

@@ -28,11 +28,11 @@ turn-lengths plan Unreadable t = same-lengths t
 -- a table that is put back as it was
 pub back-same : (slots : ℕ) (t : Table) → back slots t (part slots t) ≡ t
 back-same slots t =
-    ap₂ (λ (a b : List ℕ). tableOf a b) (take-append-drop slots (t .ids)) (take-append-drop slots (t .tats))
+    ap₂ (λ (a b : List ℕ). tableOf a b (t .newest)) (take-append-drop slots (t .ids)) (take-append-drop slots (t .tats))
 
 -- a table of zeros
 abbrev pub zeros : ℕ → Table
-zeros slots = tableOf (replicate slots 0) (replicate slots 0)
+zeros slots = tableOf (replicate slots 0) (replicate slots 0) 0
 
 -- columns that have so many slots
 pub record Room (slots : ℕ) (t : Table) : Type 0 where
@@ -56,7 +56,7 @@ module _ (slots : ℕ) (t : Table) (room : Room slots t) where
     -- a table that was put back is the part again
     pub put-back : part slots (back slots t u) ≡ u
     put-back =
-        ap₂ (λ (a b : List ℕ). tableOf a b)
+        ap₂ (λ (a b : List ℕ). tableOf a b (u .newest))
         (take-at (u .ids) (drop slots (t .ids)) slots ids-length) (take-at (u .tats) (drop slots (t .tats)) slots tats-length)
 
     -- and there is as much room as before
@@ -79,4 +79,5 @@ module _ (slots : ℕ) (t : Table) (room : Room slots t) where
   pub cleared : leb 1 slots ≡ true → slots ≤ textSlots → clear (part slots t) .after ≡ zeros slots
   cleared some most =
       let ok = slots-some slots (omega arith) ∙ some in
-      ap (λ (s : Step Table). s .after) (clear-zeros (take slots (t .ids)) (take slots (t .tats)) part-ids part-tats ok)
+      ap (λ (s : Step Table). s .after)
+      (clear-zeros (take slots (t .ids)) (take slots (t .tats)) (t .newest) part-ids part-tats ok)

@@ -5,15 +5,16 @@
 use mathlib.Core.Path.{_≡_, refl, sym, ap, _∙_}
 use mathlib.Core.Bool.{Bool, true, false, cond}
 use mathlib.Core.List.{List, [], _∷_, _++_, append-assoc}
-use Prim.Native.Nat.{ℕ, zero, suc, _≤_}
+use Prim.Native.Nat.{ℕ, zero, suc}
 use lib.Dec.{eqb}
-use lib.ListN.{length, take}
+use lib.ListN.{take}
+use Rattle.table_gcra.specs.Table.{Table}
 use Rattle.text_tsv.specs.Text.{Line, lf, lines}
 use Rattle.text_tsv.proofs.Lines.{endedLine, continued, unbegun, continued-none, lines-none, lines-lf, lines-other}
 use Rattle.text_protocol.specs.Command.{mostLine, lineCommand}
 use Rattle.text_protocol.specs.Reply.{header}
 use Rattle.text_protocol.proofs.Reading.{cut-off}
-use Rattle.text_session.specs.Session.{textSlots, unended}
+use Rattle.text_session.specs.Session.{unended, Lent}
 use Rattle.text_session.specs.Transcript.{transcript}
 use Rattle.text_session.specs.Stream.{State, kept, atLf, says, moved, said, after, textOf, isHeld, ending, start}
 use Rattle.text_session.proofs.Told.{Right, Fit, rest, answer-right, unended-right, rest-none}
@@ -128,10 +129,10 @@ streams (b ∷ s) σ p fit h = by (eqb b lf) refl (streams s)
     by false e ih = streams-other σ p fit h b s e (ih (kept σ (b ∷ [])) (p ++ (b ∷ [])) fit (kept-holds p σ b h))
 
 pub streamed :
-    (ids tats text : List ℕ) → textSlots ≤ length ids → textSlots ≤ length tats →
-    header ++ (said (start ids tats) text ++ ending (after (start ids tats) text)) ≡ transcript text
+    (t : Table) (text : List ℕ) → Lent (t .ids) (t .tats) →
+    header ++ (said (start t) text ++ ending (after (start t) text)) ≡ transcript text
 unfolding transcript still rest
-streamed ids tats text i j =
+streamed t text lent =
     ap (λ (l : List ℕ). header ++ l)
-    (streams text (start ids tats) [] (record { in-ids = i; in-tats = j }) refl
-    ∙ ap (still (start ids tats)) (unbegun (lines text)))
+    (streams text (start t) [] (record { in-ids = lent .in-ids; in-tats = lent .in-tats }) refl
+    ∙ ap (still (start t)) (unbegun (lines text)))

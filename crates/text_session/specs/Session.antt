@@ -43,15 +43,15 @@ pub record Told : Type 0 where
   pub stage : Stage
   pub table : Table
 
--- the first slots of the columns are the run's table
+-- the first slots of the columns, and the newest moment, are the run's table
 abbrev pub part : ℕ → Table → Table
-part slots t = tableOf (take slots (t .ids)) (take slots (t .tats))
+part slots t = tableOf (take slots (t .ids)) (take slots (t .tats)) (t .newest)
 
 -- and are put back in front of the other slots
 abbrev pub back : ℕ → Table → Table → Table
-back slots t u = tableOf (u .ids ++ drop slots (t .ids)) (u .tats ++ drop slots (t .tats))
+back slots t u = tableOf (u .ids ++ drop slots (t .ids)) (u .tats ++ drop slots (t .tats)) (u .newest)
 
--- a first line that is refused ends the run; a good one clears its slots
+-- a first line that is refused ends the run; a good one clears its slots and the newest moment
 unfoldable pub first : Opening → Table → Told
 first (Refused n) t = record { reply = Numbers (refusal n); stage = Over; table = t }
 first (Opened plan slots) t =
@@ -88,6 +88,6 @@ Bounded First = Unit {0}
 Bounded (Open plan slots) = slots ≤ textSlots
 Bounded Over = Unit {0}
 
--- what a line was told, with the columns as they are then
-abbrev pub toldOf : Turn → List ℕ → List ℕ → Told
-toldOf r ids tats = record { reply = r .reply; stage = r .stage; table = tableOf ids tats }
+-- what a line was told, with the table as it is then
+abbrev pub toldOf : Turn → Table → Told
+toldOf r t = record { reply = r .reply; stage = r .stage; table = t }

@@ -5,7 +5,7 @@ use mathlib.Core.Bool.{Bool, true, false, cond}
 use mathlib.Core.List.{List, [], _∷_, _++_}
 use lib.Dec.{eqb}
 use lib.ListN.{take}
-use Rattle.table_gcra.specs.Table.{Table, tableOf}
+use Rattle.table_gcra.specs.Table.{Table}
 use Rattle.text_tsv.specs.Text.{lf}
 use Rattle.text_protocol.specs.Command.{mostLine, lineCommand}
 use Rattle.text_protocol.specs.Reply.{line}
@@ -57,8 +57,8 @@ isHeld (b ∷ s) = true
 unfoldable pub ending : State → List ℕ
 ending σ = cond (isHeld (σ .held)) (textOf (unended (σ .stage))) []
 
-abbrev pub start : List ℕ → List ℕ → State
-start ids tats = record { stage = First; table = tableOf ids tats; held = [] }
+abbrev pub start : Table → State
+start t = record { stage = First; table = t; held = [] }
 
 -- how many lines of a piece end
 unfoldable pub endings : List ℕ → ℕ

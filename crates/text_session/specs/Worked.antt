@@ -1,5 +1,5 @@
--- Document 01, 'The tabbed text': its example, the whole input and the whole output, with the resets of document 02 (Item 2).
--- `\t` is a tab and `\n` an LF.
+-- Document 01, 'The tabbed text': its example, the whole input and the whole output, with the resets and the number 11 of
+-- document 02 (Items 2 and 6). `\t` is a tab and `\n` an LF.
 use Prim.Native.Nat.{ℕ}
 use mathlib.Core.List.{List, _++_}
 use Rattle.text_tsv.specs.Text.{bytesOf}
@@ -30,4 +30,4 @@ expected =
     ++ bytesOf "9\t8\t0\t0\t0\n"
     ++ bytesOf "0\t8\t0\t2667\t0\n"
     ++ bytesOf "9\t7\t0\t0\t0\n"
-    ++ bytesOf "7\t8\t0\t0\t0\n"
+    ++ bytesOf "11\t8\t0\t0\t0\n"

@@ -1,5 +1,5 @@
 // How far a run of the text program has come, and what a line is told (document 01, 'The tabbed text'). Nothing is written here
-// but the columns.
+// but the columns and the newest moment.
 ghost use mathlib.Core.Path.{_≡_};
 ghost use mathlib.Core.Bool.{_&&_};
 ghost use Prim.Native.Nat.{_≤_};
@@ -72,10 +72,10 @@ fn open(command: Command) -> Opening
 }
 
 // The first line.
-fn first(command: Command, ids: &mut [u32], tats: &mut [u64]) -> Turn
+fn first(command: Command, ids: &mut [u32], tats: &mut [u64], newest: &mut u64) -> Turn
     requires { ⌜ Lent (now ids) (now tats) ⌝ }
-    ensures { λ r. ⌜ toldOf r (now (ids .exit)) (now (tats .exit))
-        ≡ first (opening command) (tableOf (now (ids .entry)) (now (tats .entry))) ⌝ }
+    ensures { λ r. ⌜ toldOf r (tableOf (now (ids .exit)) (now (tats .exit)) (now (newest .exit)))
+        ≡ first (opening command) (tableOf (now (ids .entry)) (now (tats .entry)) (now (newest .entry))) ⌝ }
 {
     match open(command) {
         Opening::Refused(number) => Turn {
@@ -83,7 +83,7 @@ fn first(command: Command, ids: &mut [u32], tats: &mut [u64]) -> Turn
             reply: Reply::Numbers(reply::refusal(number)),
         },
         Opening::Opened { plan, slots } => {
-            table_gcra::clear(&mut ids[..slots], &mut tats[..slots]);
+            table_gcra::clear(&mut ids[..slots], &mut tats[..slots], newest);
             Turn {
                 stage: Stage::Open { plan, slots },
                 reply: Reply::Nothing,
@@ -93,10 +93,17 @@ fn first(command: Command, ids: &mut [u32], tats: &mut [u64]) -> Turn
 }
 
 // Any other line of an open run.
-fn other(plan: Plan, slots: usize, command: Command, ids: &mut [u32], tats: &mut [u64]) -> Turn
+fn other(
+    plan: Plan,
+    slots: usize,
+    command: Command,
+    ids: &mut [u32],
+    tats: &mut [u64],
+    newest: &mut u64,
+) -> Turn
     requires { ⌜ (slots ≤ length (now ids)) × (slots ≤ length (now tats)) ⌝ }
-    ensures { λ r. ⌜ toldOf r (now (ids .exit)) (now (tats .exit))
-        ≡ other plan slots command (tableOf (now (ids .entry)) (now (tats .entry))) ⌝ }
+    ensures { λ r. ⌜ toldOf r (tableOf (now (ids .exit)) (now (tats .exit)) (now (newest .exit)))
+        ≡ other plan slots command (tableOf (now (ids .entry)) (now (tats .entry)) (now (newest .entry))) ⌝ }
 {
     let Command::Ask {
         moment,
@@ -114,6 +121,7 @@ fn other(plan: Plan, slots: usize, command: Command, ids: &mut [u32], tats: &mut
         plan,
         &mut ids[..slots],
         &mut tats[..slots],
+        newest,
         moment,
         subscriber,
         cost,
@@ -125,15 +133,21 @@ fn other(plan: Plan, slots: usize, command: Command, ids: &mut [u32], tats: &mut
 }
 
 // A line answered.
-pub fn answer(stage: Stage, command: Command, ids: &mut [u32], tats: &mut [u64]) -> Turn
+pub fn answer(
+    stage: Stage,
+    command: Command,
+    ids: &mut [u32],
+    tats: &mut [u64],
+    newest: &mut u64,
+) -> Turn
     requires { ⌜ Lent (now ids) (now tats) ⌝ }
     requires { ⌜ Bounded stage ⌝ }
-    ensures { λ r. ⌜ toldOf r (now (ids .exit)) (now (tats .exit))
-        ≡ answer stage command (tableOf (now (ids .entry)) (now (tats .entry))) ⌝ }
+    ensures { λ r. ⌜ toldOf r (tableOf (now (ids .exit)) (now (tats .exit)) (now (newest .exit)))
+        ≡ answer stage command (tableOf (now (ids .entry)) (now (tats .entry)) (now (newest .entry))) ⌝ }
 {
     match stage {
-        Stage::First => first(command, ids, tats),
-        Stage::Open { plan, slots } => other(plan, slots, command, ids, tats),
+        Stage::First => first(command, ids, tats, newest),
+        Stage::Open { plan, slots } => other(plan, slots, command, ids, tats, newest),
         Stage::Over => Turn {
             stage: Stage::Over,
             reply: Reply::Nothing,

@@ -8,7 +8,7 @@ use native.Mathlib.Omega.{arith}
 use lib.ListN.{length, length-append}
 use lib.Seq.{sets}
 use borrow.Author.Tests.{le-leb, lt-leb}
-use Rattle.table_gcra.specs.Table.{Table, tableOf}
+use Rattle.table_gcra.specs.Table.{Table}
 use Rattle.text_protocol.specs.Reply.{header}
 use Rattle.text_protocol.proofs.Lengths.{header-length}
 use Rattle.text_protocol.proofs.Putting.{Put, put-length}
@@ -22,7 +22,7 @@ use Rattle.text_session.proofs.Turning.{bounded-first}
 use Rattle.text_transcript.specs.declared.stream.Session.{Session}
 use Rattle.text_transcript.specs.declared.whole.Transcribed.{Transcribed}
 use Rattle.text_transcript.specs.declared.whole.Transcribed.the-variants.{ShortTable, ShortOutput}
-use Rattle.text_transcript.specs.Running.{Ready, stateOf, started, endingOf}
+use Rattle.text_transcript.specs.Running.{Ready, stateOf, started, noTable, endingOf}
 use Rattle.text_transcript.specs.Whole.{room, transcribed, written, lentOf, Lending, Result}
 
 -- a line's buffer for a session that starts
@@ -44,27 +44,27 @@ module _ (text out : List ℕ) (fits : room text ≤ length out) where
       (σ : State) {w : ℕ} {o : List ℕ} → Put out 0 (header ++ said σ text) w o → (τ : State) → w + length (ending τ) ≤ length o
   end-fits σ p τ = omega (arith, p .place, put-length p, said-most σ text, ending-most τ, length-append header (said σ text))
 
-module _ (text ids tats : List ℕ) (lent : Lent ids tats) {s : Session} (e : s ≡ started) (line : List ℕ) where
+module _ (text : List ℕ) (t : Table) (lent : Lent (t .ids) (t .tats)) {s : Session} (e : s ≡ started) (line : List ℕ) where
   -- a session that starts stands for the start
-  start-is : stateOf s line ids tats ≡ start ids tats
-  start-is = ap (λ (x : Session). stateOf x line ids tats) e
+  start-is : stateOf s line t ≡ start t
+  start-is = ap (λ (x : Session). stateOf x line t) e
 
-  module _ (s′ : Session) (line′ : List ℕ) {ids′ tats′ : List ℕ} (m : stateOf s′ line′ ids′ tats′ ≡ after (stateOf s line ids tats) text) where
-    leads : stateOf s′ line′ ids′ tats′ ≡ after (start ids tats) text
+  module _ (s′ : Session) (line′ : List ℕ) {t′ : Table} (m : stateOf s′ line′ t′ ≡ after (stateOf s line t) text) where
+    leads : stateOf s′ line′ t′ ≡ after (start t) text
     leads = m ∙ ap (λ (σ : State). after σ text) start-is
 
-    pub table-after : tableOf ids′ tats′ ≡ after (start ids tats) text .table
+    pub table-after : t′ ≡ after (start t) text .table
     table-after = ap (λ (σ : State). σ .table) leads
 
-    ending-is : endingOf s′ line′ ≡ ending (after (start ids tats) text)
-    ending-is = sym (ending-any (stateOf s′ line′ ids′ tats′) (tableOf [] [])) ∙ ap (λ (σ : State). ending σ) leads
+    ending-is : endingOf s′ line′ ≡ ending (after (start t) text)
+    ending-is = sym (ending-any (stateOf s′ line′ t′) noTable) ∙ ap (λ (σ : State). ending σ) leads
 
-    pub text-is : header ++ said (stateOf s line ids tats) text ++ endingOf s′ line′ ≡ transcript text
+    pub text-is : header ++ said (stateOf s line t) text ++ endingOf s′ line′ ≡ transcript text
     text-is =
         ap (λ (σ : State). header ++ said σ text ++ endingOf s′ line′) start-is
-        ∙ ap (λ (t : List ℕ). header ++ said (start ids tats) text ++ t) ending-is
-        ∙ append-assoc header (said (start ids tats) text) (ending (after (start ids tats) text))
-        ∙ streamed ids tats text (lent .in-ids) (lent .in-tats)
+        ∙ ap (λ (l : List ℕ). header ++ said (start t) text ++ l) ending-is
+        ∙ append-assoc header (said (start t) text) (ending (after (start t) text))
+        ∙ streamed t text lent
 
 -- the header is put at the start
 pub header-put : (out : List ℕ) {w : ℕ} {o : List ℕ} → w ≡ length header → o ≡ sets out 0 header → Put out 0 header w o
@@ -75,27 +75,27 @@ pub put-as : {l : List ℕ} {at : ℕ} {s t : List ℕ} {w : ℕ} {out : List �
 put-as {l} {at} {w = w} {out = out} e p = subst (λ (x : List ℕ). Put l at x w out) e p
 
 -- the tests of `transcribe`
-module _ (text ids tats out : List ℕ) where
+module _ (text : List ℕ) (t : Table) (out : List ℕ) where
   abbrev as-it-was : Transcribed → Result
-  as-it-was answer = record { answer = answer; left = lentOf ids tats out }
+  as-it-was answer = record { answer = answer; left = lentOf t out }
 
-  pub short-ids : length ids < textSlots → transcribed text ids tats out ≡ as-it-was ShortTable
+  pub short-ids : length (t .ids) < textSlots → transcribed text t out ≡ as-it-was ShortTable
   unfolding transcribed
   short-ids h = rw (lt-leb _ _ h)
 
-  module _ (i : textSlots ≤ length ids) where
-    pub short-tats : length tats < textSlots → transcribed text ids tats out ≡ as-it-was ShortTable
+  module _ (i : textSlots ≤ length (t .ids)) where
+    pub short-tats : length (t .tats) < textSlots → transcribed text t out ≡ as-it-was ShortTable
     unfolding transcribed
     short-tats h = rw (le-leb _ _ i, lt-leb _ _ h)
 
-    module _ (t : textSlots ≤ length tats) where
-      pub short-out : length out < room text → transcribed text ids tats out ≡ as-it-was ShortOutput
+    module _ (j : textSlots ≤ length (t .tats)) where
+      pub short-out : length out < room text → transcribed text t out ≡ as-it-was ShortOutput
       unfolding transcribed
-      short-out h = rw (le-leb _ _ i, le-leb _ _ t, lt-leb _ _ h)
+      short-out h = rw (le-leb _ _ i, le-leb _ _ j, lt-leb _ _ h)
 
-      pub long-enough : room text ≤ length out → transcribed text ids tats out ≡ written text ids tats out
+      pub long-enough : room text ≤ length out → transcribed text t out ≡ written text t out
       unfolding transcribed
-      long-enough h = rw (le-leb _ _ i, le-leb _ _ t, le-leb _ _ h)
+      long-enough h = rw (le-leb _ _ i, le-leb _ _ j, le-leb _ _ h)
 
 -- the room, as a division finds it
 module _ (text out : List ℕ) {n : ℕ} (counted : n ≡ endings text) where
@@ -113,5 +113,5 @@ pub least-room : (text out : List ℕ) → length out < 140 → length out < roo
 least-room text out h = omega (arith, header-length)
 
 pub lent-same :
-    {t t′ : Table} {out out′ : List ℕ} → t ≡ t′ → out ≡ out′ → _≡_ {A = Lending} (record { table = t; out = out }) (record { table = t′; out = out′ })
-lent-same e o k = record { table = e k; out = o k }
+    {t t′ : Table} {out out′ : List ℕ} → t ≡ t′ → out ≡ out′ → lentOf t out ≡ lentOf t′ out′
+lent-same e o k = lentOf (e k) (o k)

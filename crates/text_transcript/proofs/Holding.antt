@@ -9,6 +9,7 @@ use lib.Dec.{leb}
 use lib.ListN.{length, take, drop, length-append}
 use lib.Seq.{sets, sets-eq, length-take-le, take-all, take-at, take-append-add}
 use borrow.Author.Tests.{leb-true, leb-false}
+use Rattle.table_gcra.specs.Table.{Table}
 use Rattle.text_tsv.specs.Text.{lf}
 use Rattle.text_tsv.proofs.Lines.{endedLine}
 use Rattle.text_protocol.specs.Command.{mostLine, lineCommand}
@@ -64,14 +65,14 @@ pub read-here :
     lineCommand (endedLine rest) ≡ lineCommand (endedLine (take mostLine (take held line ++ rest)))
 read-here line rest e = rw e (sym (cut-off rest))
 
-module _ (σ : State) (r : Turn) {ids tats : List ℕ} (told : toldOf r ids tats ≡ atLf σ) where
+module _ (σ : State) (r : Turn) {t : Table} (told : toldOf r t ≡ atLf σ) where
   pub reply-room : (at : ℕ) {room : ℕ} → at + length (says σ lf) ≤ room → at + length (textOf (r .reply)) ≤ room
   reply-room at {room} h = subst (λ (l : List ℕ). at + length l ≤ room) (sym (says-reply σ told)) h
 
   pub ended-moved :
-      {line out out′ : List ℕ} {at w : ℕ} → Bounded (σ .stage) → mostLine ≤ length line → Lent ids tats →
+      {line out out′ : List ℕ} {at w : ℕ} → Bounded (σ .stage) → mostLine ≤ length line → Lent (t .ids) (t .tats) →
       (w ≡ at + length (textOf (r .reply))) × (out′ ≡ sets out at (textOf (r .reply))) →
-      Moved (says σ lf) (moved σ lf) at (record { session = record { stage = r .stage; held = 0 }; at = w }) line ids tats out out′
+      Moved (says σ lf) (moved σ lf) at (record { session = record { stage = r .stage; held = 0 }; at = w }) line t out out′
   ended-moved {line} {out} {out′} {at} {w} bounded enough lent put =
       let text = says-reply σ told in
       record {

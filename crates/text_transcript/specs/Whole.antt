@@ -1,4 +1,4 @@
--- What `transcribe` answers and leaves, for any text, columns and output.
+-- What `transcribe` answers and leaves, for any text, table and output.
 use mathlib.Core.Bool.{cond, _&&_}
 use mathlib.Core.List.{List}
 use Prim.Native.Nat.{ℕ, _+_, _*_}
@@ -8,7 +8,7 @@ use lib.Seq.{sets}
 use Rattle.text_session.specs.Session.{textSlots}
 use Rattle.text_transcript.specs.declared.whole.Transcribed.{Transcribed}
 use Rattle.text_transcript.specs.declared.whole.Transcribed.the-variants.{Written, ShortTable, ShortOutput}
-use Rattle.table_gcra.specs.Table.{Table, tableOf}
+use Rattle.table_gcra.specs.Table.{Table}
 use Rattle.text_protocol.specs.Reply.{header, mostReply}
 use Rattle.text_session.specs.Transcript.{transcript}
 use Rattle.text_session.specs.Stream.{after, start, endings}
@@ -26,19 +26,20 @@ pub record Result : Type 0 where
   pub answer : Transcribed
   pub left : Lending
 
-abbrev pub lentOf : List ℕ → List ℕ → List ℕ → Lending
-lentOf ids tats out = record { table = tableOf ids tats; out = out }
+abbrev pub lentOf : Table → List ℕ → Lending
+lentOf t out = record { table = t; out = out }
 
--- the transcript is written, and the bytes after it stay; the columns are as the run leaves them
-abbrev pub written : List ℕ → List ℕ → List ℕ → List ℕ → Result
-written text ids tats out =
+-- the transcript is written, and the bytes after it stay; the table, its newest moment too, is as the run leaves it
+abbrev pub written : List ℕ → Table → List ℕ → Result
+written text t out =
     record {
       answer = Written (length (transcript text));
-      left = record { table = after (start ids tats) text .table; out = sets out 0 (transcript text) };
+      left = lentOf (after (start t) text .table) (sets out 0 (transcript text));
     }
 
-unfoldable pub transcribed : List ℕ → List ℕ → List ℕ → List ℕ → Result
-transcribed text ids tats out =
-    cond (leb textSlots (length ids) && leb textSlots (length tats))
-    (cond (leb (room text) (length out)) (written text ids tats out) (record { answer = ShortOutput; left = lentOf ids tats out }))
-    (record { answer = ShortTable; left = lentOf ids tats out })
+-- a refusal leaves everything as it was
+unfoldable pub transcribed : List ℕ → Table → List ℕ → Result
+transcribed text t out =
+    cond (leb textSlots (length (t .ids)) && leb textSlots (length (t .tats)))
+    (cond (leb (room text) (length out)) (written text t out) (record { answer = ShortOutput; left = lentOf t out }))
+    (record { answer = ShortTable; left = lentOf t out })

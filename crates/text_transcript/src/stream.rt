@@ -6,6 +6,7 @@ ghost use mathlib.Core.List.{_++_};
 ghost use Prim.Native.Nat.{_+_, _≤_, min};
 ghost use lib.ListN.{length, take};
 ghost use lib.Seq.{sets};
+ghost use Rattle.table_gcra.specs.Table.{tableOf};
 ghost use Rattle.text_tsv.specs.Text.{lf};
 ghost use Rattle.text_protocol.specs.Command.{mostLine, lineCommand};
 ghost use Rattle.text_session.specs.Session.{Lent};
@@ -92,20 +93,25 @@ fn end_line(
     line: &mut [u8],
     ids: &mut [u32],
     tats: &mut [u64],
+    newest: &mut u64,
     out: &mut [u8],
     at: usize,
 ) -> Fed
     requires { ⌜ Ready session (now line) ⌝ }
     requires { ⌜ Lent (now ids) (now tats) ⌝ }
-    requires { ⌜ at + length (says (kept (stateOf session (now line) (now ids) (now tats)) (now rest)) lf) ≤ length (now out) ⌝ }
+    requires { ⌜ at + length (says (kept (stateOf session (now line) (tableOf (now ids) (now tats) (now newest))) (now rest)) lf)
+        ≤ length (now out) ⌝ }
     ensures { λ r. ⌜ Moved
-        (says (kept (stateOf session (now (line .entry)) (now (ids .entry)) (now (tats .entry))) (now (rest .entry))) lf)
-        (moved (kept (stateOf session (now (line .entry)) (now (ids .entry)) (now (tats .entry))) (now (rest .entry))) lf)
-        at r (now (line .exit)) (now (ids .exit)) (now (tats .exit)) (now (out .entry)) (now (out .exit)) ⌝ }
+        (says (kept (stateOf session (now (line .entry))
+        (tableOf (now (ids .entry)) (now (tats .entry)) (now (newest .entry)))) (now (rest .entry))) lf)
+        (moved (kept (stateOf session (now (line .entry))
+        (tableOf (now (ids .entry)) (now (tats .entry)) (now (newest .entry)))) (now (rest .entry))) lf)
+        at r (now (line .exit)) (tableOf (now (ids .exit)) (now (tats .exit)) (now (newest .exit)))
+        (now (out .entry)) (now (out .exit)) ⌝ }
 {
     let command = ended(line, session.held, rest);
     let stage = session.stage;
-    let turn = text_session::answer(stage, command, ids, tats);
+    let turn = text_session::answer(stage, command, ids, tats, newest);
     let stage = turn.stage;
     let reply = turn.reply;
     Fed {
@@ -121,16 +127,21 @@ pub fn feed(
     line: &mut [u8],
     ids: &mut [u32],
     tats: &mut [u64],
+    newest: &mut u64,
     out: &mut [u8],
     at: usize,
 ) -> Fed
     requires { ⌜ Ready session (now line) ⌝ }
     requires { ⌜ Lent (now ids) (now tats) ⌝ }
-    requires { ⌜ at + length (said (stateOf session (now line) (now ids) (now tats)) (now piece)) ≤ length (now out) ⌝ }
+    requires { ⌜ at + length (said (stateOf session (now line) (tableOf (now ids) (now tats) (now newest))) (now piece))
+        ≤ length (now out) ⌝ }
     ensures { λ r. ⌜ Moved
-        (said (stateOf session (now (line .entry)) (now (ids .entry)) (now (tats .entry))) (now (piece .entry)))
-        (after (stateOf session (now (line .entry)) (now (ids .entry)) (now (tats .entry))) (now (piece .entry)))
-        at r (now (line .exit)) (now (ids .exit)) (now (tats .exit)) (now (out .entry)) (now (out .exit)) ⌝ }
+        (said (stateOf session (now (line .entry))
+        (tableOf (now (ids .entry)) (now (tats .entry)) (now (newest .entry)))) (now (piece .entry)))
+        (after (stateOf session (now (line .entry))
+        (tableOf (now (ids .entry)) (now (tats .entry)) (now (newest .entry)))) (now (piece .entry)))
+        at r (now (line .exit)) (tableOf (now (ids .exit)) (now (tats .exit)) (now (newest .exit)))
+        (now (out .entry)) (now (out .exit)) ⌝ }
 {
     let mut s = session;
     let mut w = at;
@@ -145,7 +156,7 @@ pub fn feed(
                 at: w,
             };
         }
-        let fed = end_line(s, &piece[i..end], line, ids, tats, out, w);
+        let fed = end_line(s, &piece[i..end], line, ids, tats, newest, out, w);
         s = fed.session;
         w = fed.at;
         i = end + 1;

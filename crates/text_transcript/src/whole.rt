@@ -1,4 +1,4 @@
-// A whole input text to the whole output text, over columns and an output that a host lends.
+// A whole input text to the whole output text, over a table and an output that a host lends.
 ghost use mathlib.Core.Path.{_≡_};
 ghost use mathlib.Core.Bool.{cond};
 ghost use Prim.Native.Nat.{_+_, _≤_};
@@ -53,25 +53,33 @@ fn endings(text: &[u8]) -> usize
 }
 
 // The whole run over lent columns and output that are large enough.
-fn run(text: &[u8], ids: &mut [u32], tats: &mut [u64], out: &mut [u8]) -> usize
+fn run(text: &[u8], ids: &mut [u32], tats: &mut [u64], newest: &mut u64, out: &mut [u8]) -> usize
     requires { ⌜ Lent (now ids) (now tats) ⌝ }
     requires { ⌜ room (now text) ≤ length (now out) ⌝ }
     ensures { λ r. ⌜ (r ≡ length (transcript (now (text .entry))))
         × (now (out .exit) ≡ sets (now (out .entry)) 0 (transcript (now (text .entry)))) ⌝ }
-    ensures { λ r. ⌜ tableOf (now (ids .exit)) (now (tats .exit))
-        ≡ after (start (now (ids .entry)) (now (tats .entry))) (now (text .entry)) .table ⌝ }
+    ensures { λ r. ⌜ tableOf (now (ids .exit)) (now (tats .exit)) (now (newest .exit))
+        ≡ after (start (tableOf (now (ids .entry)) (now (tats .entry)) (now (newest .entry)))) (now (text .entry)) .table ⌝ }
 {
     let mut line = [0u8; MOST_LINE];
     let at = reply::put_header(out);
-    let fed = stream::feed(stream::start(), text, &mut line, ids, tats, out, at);
+    let fed = stream::feed(stream::start(), text, &mut line, ids, tats, newest, out, at);
     let session = fed.session;
     stream::finish(session, &line, out, fed.at)
 }
 
-pub fn transcribe(text: &[u8], ids: &mut [u32], tats: &mut [u64], out: &mut [u8]) -> Transcribed
-    ensures { λ r. ⌜ r ≡ transcribed (now (text .entry)) (now (ids .entry)) (now (tats .entry)) (now (out .entry)) .answer ⌝ }
-    ensures { λ r. ⌜ lentOf (now (ids .exit)) (now (tats .exit)) (now (out .exit))
-        ≡ transcribed (now (text .entry)) (now (ids .entry)) (now (tats .entry)) (now (out .entry)) .left ⌝ }
+pub fn transcribe(
+    text: &[u8],
+    ids: &mut [u32],
+    tats: &mut [u64],
+    newest: &mut u64,
+    out: &mut [u8],
+) -> Transcribed
+    ensures { λ r. ⌜ r ≡ transcribed (now (text .entry))
+        (tableOf (now (ids .entry)) (now (tats .entry)) (now (newest .entry))) (now (out .entry)) .answer ⌝ }
+    ensures { λ r. ⌜ lentOf (tableOf (now (ids .exit)) (now (tats .exit)) (now (newest .exit))) (now (out .exit))
+        ≡ transcribed (now (text .entry))
+        (tableOf (now (ids .entry)) (now (tats .entry)) (now (newest .entry))) (now (out .entry)) .left ⌝ }
 {
     if ids.len() < TEXT_SLOTS {
         return Transcribed::ShortTable;
@@ -85,5 +93,5 @@ pub fn transcribe(text: &[u8], ids: &mut [u32], tats: &mut [u64], out: &mut [u8]
     if (out.len() - (HEADER + MOST_REPLY)) / MOST_REPLY < endings(text) {
         return Transcribed::ShortOutput;
     }
-    Transcribed::Written(run(text, ids, tats, out))
+    Transcribed::Written(run(text, ids, tats, newest, out))
 }

@@ -30,10 +30,13 @@ within-limits p e =
       burst-most = burst .1;
     }
 
+pub on-clock : (at : ℕ) → onClock at ≡ true → at ≤ lastMoment
+unfolding onClock
+on-clock at e = leb-true _ _ e
+
 -- checks 1 and 3, passed
 pub in-force : (p : Plan) (at : ℕ) → planOk p ≡ true → onClock at ≡ true → InForce p at
-unfolding onClock
-in-force p at plan moment = record { plan = within-limits p plan; moment = leb-true _ _ moment }
+in-force p at plan moment = record { plan = within-limits p plan; moment = on-clock at moment }
 
 module _ (p : Plan) (w : WithinLimits p) where
   pub capacity-most : capacity p ≤ mostPeriod * mostBurst

@@ -16,6 +16,9 @@ pub struct Book {
     plan: Plan,
     slots: usize,
     lists: BTreeMap<u32, Vec<Admitted>>,
+    /// Those of all lists, in one list besides: to look through many lists at every call takes its time.
+    moments: Vec<u64>,
+    narrow: bool,
 }
 
 impl Book {
@@ -25,12 +28,15 @@ impl Book {
             plan,
             slots,
             lists: BTreeMap::new(),
+            moments: Vec::new(),
+            narrow: false,
         }
     }
 
     pub fn acquire(&mut self, moment: u64, subscriber: u32, cost: u32) -> Answer {
-        let (s, units) = (moment as u128, cost as u128);
-        let stopped = checks::of_ask(&self.plan, self.usable(), s, subscriber as u128, units);
+        let (s, newest) = (moment as u128, self.newest_for(subscriber));
+        let (asked_for, units) = (subscriber as u128, cost as u128);
+        let stopped = checks::of_ask(&self.plan, self.usable(), newest, s, asked_for, units);
         let verdict = match stopped {
             Some(number) => refusal(number),
             None => self.decide(s, subscriber, units),
@@ -39,8 +45,8 @@ impl Book {
     }
 
     pub fn peek(&self, moment: u64, subscriber: u32) -> Answer {
-        let s = moment as u128;
-        let stopped = checks::of_look(&self.plan, self.usable(), s, subscriber as u128);
+        let (s, newest) = (moment as u128, self.newest_for(subscriber));
+        let stopped = checks::of_look(&self.plan, self.usable(), newest, s, subscriber as u128);
         let verdict = match stopped {
             Some(number) => refusal(number),
             None => settled(&self.plan, s, self.debt(subscriber, s)),
@@ -50,6 +56,7 @@ impl Book {
 
     pub fn clear(&mut self) -> Answer {
         self.lists.clear();
+        self.moments.clear();
         [0; 5]
     }
 
@@ -61,7 +68,28 @@ impl Book {
         }
     }
 
-    /// An ask that passed checks 1 to 6. The admitted one is added at the end of its subscriber's list.
+    /// Takes the newest moment from the caller's own list alone from now on: another such mistake.
+    pub fn narrow(&mut self) {
+        self.narrow = true;
+    }
+
+    /// The newest moment in the lists of all subscribers, or 0 if all are empty (document 02, Item 6).
+    pub fn newest(&self) -> u128 {
+        self.moments
+            .iter()
+            .max()
+            .map_or(0, |&moment| moment as u128)
+    }
+
+    fn newest_for(&self, subscriber: u32) -> u128 {
+        if !self.narrow {
+            return self.newest();
+        }
+        let own = self.lists.get(&subscriber).into_iter().flatten();
+        own.map(|call| call.moment as u128).max().unwrap_or(0)
+    }
+
+    /// An ask that passed the checks. The admitted one is added at the end of its subscriber's list.
     fn decide(&mut self, s: u128, subscriber: u32, cost: u128) -> Verdict {
         if self.is_full(s, subscriber) {
             return refusal(9);
@@ -75,6 +103,7 @@ impl Book {
             moment: s as i128,
             cost: cost as i128,
         });
+        self.moments.push(s as u64);
         settled(&self.plan, s, after)
     }
 
@@ -114,15 +143,16 @@ mod tests {
     use super::*;
     use crate::example::{plan, LINES};
 
-    /// The example but its last line, where the moment falls.
     #[test]
     fn document_01_example() {
         let mut book = Book::new(plan(), 1);
-        for (moment, subscriber, cost, expected) in &LINES[..9] {
-            assert_eq!(book.acquire(*moment, *subscriber, *cost), *expected);
+        for (moment, subscriber, cost, expected) in LINES {
+            assert_eq!(book.acquire(moment, subscriber, cost), expected);
         }
+        assert_eq!(book.newest(), 2000);
         assert_eq!(book.peek(2000, 8), [0, 8, 0, 2667, 0]);
         assert_eq!(book.clear(), [0; 5]);
+        assert_eq!(book.newest(), 0);
         assert_eq!(book.acquire(0, 7, 2), [0, 7, 0, 667, 0]);
     }
 
@@ -172,6 +202,21 @@ mod tests {
                 number
             });
             assert_eq!(asks.filter(|&number| number == 0).count(), admitted);
+        }
+    }
+
+    /// Another's admission counts, unless the book looks at the caller's alone.
+    #[test]
+    fn the_newest_moment_is_of_all_or_of_the_caller() {
+        for (narrow, number) in [(false, 11), (true, 0)] {
+            let mut book = Book::new(plan(), 2);
+            if narrow {
+                book.narrow();
+            }
+            assert_eq!(book.acquire(2000, 7, 1)[0], 0);
+            assert_eq!(book.peek(1999, 8)[0], number);
+            assert_eq!(book.acquire(1999, 8, 1)[0], number);
+            assert_eq!(book.acquire(1998, 8, 1)[0], 11);
         }
     }
 

@@ -1,5 +1,5 @@
-//! Document 01, 'The decision' and 'When the gate says no', on one record. Checks 2, 4 and 9, which need seats, are the
-//! table's.
+//! Document 01, 'The decision' and 'When the gate says no', on one record. Checks 2, 4, 9 and 11, which need seats or the
+//! newest moment, are the table's.
 
 use crate::checks;
 use crate::plan::{div_up, Plan};
@@ -112,13 +112,12 @@ impl Record for Bucket {
     }
 }
 
-/// Number 0 with left and reset from the debt after the call; the reset is the first whole millisecond at which it is 0
-/// (document 02, Item 2). The book's debt can exceed a full bucket where the clock falls; document 01 says nothing of that
-/// case, and left is then 0.
+/// Number 0 with left and reset from the debt after the call, which is at most a full bucket; the reset is the first whole
+/// millisecond at which it is 0 (document 02, Item 2).
 pub fn settled(plan: &Plan, moment: u128, debt: u128) -> Verdict {
     Verdict {
         number: 0,
-        left: plan.full().saturating_sub(debt) / plan.period,
+        left: (plan.full() - debt) / plan.period,
         reset: moment + div_up(debt, plan.limit),
         wait: 0,
     }
@@ -133,7 +132,7 @@ pub fn waiting(plan: &Plan, moment: u128, debt: u128, cost: u128) -> Verdict {
     }
 }
 
-/// What a look says once checks 1 to 4 are passed.
+/// What a look says once checks 1, 2, 3, 11 and 4 are passed.
 pub fn report<R: Record>(plan: &Plan, moment: u128, record: R) -> Verdict {
     if record.impossible(plan, moment) {
         return refusal(7);
@@ -141,7 +140,7 @@ pub fn report<R: Record>(plan: &Plan, moment: u128, record: R) -> Verdict {
     settled(plan, moment, record.debt(plan, moment))
 }
 
-/// What an ask says once checks 1 to 6 are passed, and the record afterwards.
+/// What an ask says once checks 1, 2, 3, 11, 4, 5 and 6 are passed, and the record afterwards.
 pub fn judge<R: Record>(plan: &Plan, moment: u128, record: R, cost: u128) -> (Verdict, R) {
     if record.impossible(plan, moment) {
         return (refusal(7), record);
@@ -157,7 +156,7 @@ pub fn judge<R: Record>(plan: &Plan, moment: u128, record: R, cost: u128) -> (Ve
 
 /// A look at one record: checks 1, 3 and 7, else left and reset under number 0.
 pub fn look<R: Record>(plan: &Plan, moment: u128, record: R) -> Verdict {
-    match checks::of_look(plan, true, moment, 1) {
+    match checks::of_look(plan, true, 0, moment, 1) {
         Some(number) => refusal(number),
         None => report(plan, moment, record),
     }
@@ -165,7 +164,7 @@ pub fn look<R: Record>(plan: &Plan, moment: u128, record: R) -> Verdict {
 
 /// An ask on one record: checks 1, 3, 5, 6, 7 and 8, and the record afterwards.
 pub fn ask<R: Record>(plan: &Plan, moment: u128, record: R, cost: u128) -> (Verdict, R) {
-    match checks::of_ask(plan, true, moment, 1, cost) {
+    match checks::of_ask(plan, true, 0, moment, 1, cost) {
         Some(number) => (refusal(number), record),
         None => judge(plan, moment, record, cost),
     }
@@ -194,7 +193,8 @@ mod tests {
         Plan::new(EXAMPLE.0, EXAMPLE.1, EXAMPLE.2)
     }
 
-    /// The lines of document 01's example that concern one record: moment, cost, and number, left, reset, wait.
+    /// The lines of document 01's example that concern one record: moment, cost, and number, left, reset, wait. The last is
+    /// what the record alone says; the table says 11 before it.
     const SHOP_7: [(u128, u128, [u128; 4]); 6] = [
         (1000, 1, [0, 1, 1334, 0]),
         (1000, 1, [0, 0, 1667, 0]),

@@ -1,4 +1,5 @@
-//! Document 01's example with the resets of document 02 (Item 2), for the tests: one seat, 3 units per 1000 ms, burst 2.
+//! Document 01's example with the resets of document 02 (Item 2) and its number 11 (Item 6), for the tests: one seat, 3 units
+//! per 1000 ms, burst 2.
 
 use crate::decision::{Bucket, Paced};
 use crate::plan::Plan;
@@ -21,7 +22,7 @@ pub const LINES: [Line; 10] = [
     (1334, 8, 2, [9, 8, 0, 0, 0]),
     (2000, 8, 2, [0, 8, 0, 2667, 0]),
     (2000, 7, 1, [9, 7, 0, 0, 0]),
-    (1999, 8, 1, [7, 8, 0, 0, 0]),
+    (1999, 8, 1, [11, 8, 0, 0, 0]),
 ];
 
 /// What hosts/c/example.c must print: a call, GCRA's answer and the token bucket's.

@@ -48,6 +48,7 @@ mod tests {
         assert_eq!(told(1000, [8, 7, 0, 1667, 334]), [2, 1, 0, 1, 1]);
         assert_eq!(told(1334, [6, 7, 0, 0, 0]), [2, 1, 0, 0, 0]);
         assert_eq!(told(1334, [9, 8, 0, 0, 0]), [2, 1, 0, 0, 0]);
+        assert_eq!(told(1999, [11, 8, 0, 0, 0]), [2, 1, 0, 0, 0]);
     }
 
     /// A unit a minute with a burst of 12: whole seconds stay, and a millisecond more is a second more.

@@ -1,5 +1,5 @@
-//! Document 01, 'Seats': ask (`acquire`), look (`peek`) and clear over a table of slots. The columns are vectors of any
-//! lengths, as a host could lend them.
+//! Document 01, 'Seats', with document 02's newest moment (Item 6): ask (`acquire`), look (`peek`) and clear over a table of
+//! slots. The columns are vectors of any lengths, as a host could lend them, and the newest moment any number.
 
 use crate::checks::{self, MOST_SLOTS};
 use crate::decision::{judge, refusal, report, Bucket, Paced, Record, Verdict};
@@ -54,32 +54,35 @@ impl Stored for Bucket {
     }
 }
 
-/// The ids, and the columns of the record in the order of `Stored::COLUMNS`.
+/// The ids, the columns of the record in the order of `Stored::COLUMNS`, and the newest moment at which anything was admitted.
 #[derive(Clone, Debug, PartialEq, Eq)]
 pub struct Table<R> {
     pub ids: Vec<u32>,
     pub columns: Vec<Vec<u64>>,
+    pub newest: u64,
     kind: PhantomData<R>,
 }
 
 impl<R: Stored> Table<R> {
-    pub fn new(ids: Vec<u32>, columns: Vec<Vec<u64>>) -> Table<R> {
+    pub fn new(ids: Vec<u32>, columns: Vec<Vec<u64>>, newest: u64) -> Table<R> {
         assert_eq!(columns.len(), R::COLUMNS.len(), "the number of columns");
         Table {
             ids,
             columns,
+            newest,
             kind: PhantomData,
         }
     }
 
     /// A table as a clear leaves it.
     pub fn cleared(slots: usize) -> Table<R> {
-        Table::new(vec![0; slots], vec![vec![0; slots]; R::COLUMNS.len()])
+        Table::new(vec![0; slots], vec![vec![0; slots]; R::COLUMNS.len()], 0)
     }
 
     pub fn acquire(&mut self, plan: &Plan, moment: u64, subscriber: u32, cost: u32) -> Answer {
-        let (moment, cost) = (moment as u128, cost as u128);
-        let stopped = checks::of_ask(plan, self.usable(), moment, subscriber as u128, cost);
+        let (moment, newest) = (moment as u128, self.newest as u128);
+        let (asked_for, cost) = (subscriber as u128, cost as u128);
+        let stopped = checks::of_ask(plan, self.usable(), newest, moment, asked_for, cost);
         let verdict = match stopped {
             Some(number) => refusal(number),
             None => self.decide(plan, moment, subscriber, cost),
@@ -88,8 +91,9 @@ impl<R: Stored> Table<R> {
     }
 
     pub fn peek(&self, plan: &Plan, moment: u64, subscriber: u32) -> Answer {
-        let moment = moment as u128;
-        let verdict = match checks::of_look(plan, self.usable(), moment, subscriber as u128) {
+        let (moment, newest) = (moment as u128, self.newest as u128);
+        let stopped = checks::of_look(plan, self.usable(), newest, moment, subscriber as u128);
+        let verdict = match stopped {
             Some(number) => refusal(number),
             None => report(
                 plan,
@@ -100,7 +104,8 @@ impl<R: Stored> Table<R> {
         answer(subscriber, verdict)
     }
 
-    /// Makes every column all zeros and answers 0, or answers 2 and touches nothing; it names no subscriber.
+    /// Makes every column and the newest moment all zeros and answers 0, or answers 2 and touches nothing; it names no
+    /// subscriber.
     pub fn clear(&mut self) -> Answer {
         if !self.usable() {
             return answer(0, refusal(2));
@@ -109,10 +114,11 @@ impl<R: Stored> Table<R> {
         for column in &mut self.columns {
             column.fill(0);
         }
+        self.newest = 0;
         [0; 5]
     }
 
-    /// An ask that passed checks 1 to 6: only an admission writes, and only in its own slot.
+    /// An ask that passed the checks: only an admission writes, and only in its own slot and the newest moment.
     fn decide(&mut self, plan: &Plan, moment: u128, subscriber: u32, cost: u128) -> Verdict {
         let own = self.own(subscriber);
         let Some(slot) = own.or_else(|| self.lowest_free(plan, moment)) else {
@@ -122,6 +128,7 @@ impl<R: Stored> Table<R> {
         if verdict.number == 0 {
             self.ids[slot] = subscriber;
             next.store(&mut self.columns, slot);
+            self.newest = word(moment);
         }
         verdict
     }
@@ -154,18 +161,20 @@ impl<R: Stored> Table<R> {
 mod tests {
     use super::*;
     use crate::example::{plan, LINES};
+    use std::fmt::Debug;
 
-    /// Plays document 01's lines on one slot; `after` has the slot (id and record) after each admission.
+    /// Plays document 01's lines on one slot; `after` has the slot (id and record) after each admission, which is the newest.
     fn example<R: Stored>(after: &[(usize, &[u64])]) {
         let mut table = Table::<R>::cleared(1);
-        let mut row = (0, vec![0; R::COLUMNS.len()]);
+        let mut row = (0, vec![0; R::COLUMNS.len()], 0);
         for (line, &(moment, subscriber, cost, expected)) in LINES.iter().enumerate() {
             assert_eq!(table.acquire(&plan(), moment, subscriber, cost), expected);
             if let Some((_, record)) = after.iter().find(|(admitted, _)| *admitted == line + 1) {
-                row = (subscriber, record.to_vec());
+                row = (subscriber, record.to_vec(), moment);
             }
             assert_eq!(table.ids, [row.0], "after line {}", line + 1);
             assert_eq!(table.columns.concat(), row.1, "after line {}", line + 1);
+            assert_eq!(table.newest, row.2, "after line {}", line + 1);
         }
     }
 
@@ -251,14 +260,14 @@ mod tests {
             (5001, [7, 7, 0, 0, 0], [7, 7, 0, 0, 0]),
             (u64::MAX, [7, 7, 0, 0, 0], [7, 7, 0, 0, 0]),
         ] {
-            let before = Table::<Paced>::new(vec![7], vec![vec![tat]]);
+            let before = Table::<Paced>::new(vec![7], vec![vec![tat]], 1000);
             let mut table = before.clone();
             assert_eq!(table.peek(&plan(), 1000, 7), seen);
             assert_eq!(table.acquire(&plan(), 1000, 7, 1), asked);
             assert_eq!(table, before);
         }
         for (level, last) in [(2001, 1000), (2000, 1001)] {
-            let mut table = Table::<Bucket>::new(vec![7], vec![vec![level], vec![last]]);
+            let mut table = Table::<Bucket>::new(vec![7], vec![vec![level], vec![last]], 0);
             assert_eq!(table.acquire(&plan(), 1000, 7, 1), [7, 7, 0, 0, 0]);
         }
     }
@@ -268,7 +277,7 @@ mod tests {
     #[test]
     fn slots_are_taken_from_the_lowest() {
         let tats = vec![u64::MAX, 3001, 3000, 3000];
-        let mut table = Table::<Paced>::new(vec![0, 7, 7, 5], vec![tats]);
+        let mut table = Table::<Paced>::new(vec![0, 7, 7, 5], vec![tats], 0);
         assert_eq!(table.acquire(&plan(), 1000, 7, 1), [0, 7, 0, 1334, 0]);
         assert_eq!(table.columns[0], [u64::MAX, 4001, 3000, 3000]);
         assert_eq!(table.acquire(&plan(), 1000, 8, 1), [0, 8, 1, 1334, 0]);
@@ -278,12 +287,53 @@ mod tests {
         assert_eq!(table.columns[0], [4000, 4001, 5000, 3000]);
     }
 
+    /// Document 02, Item 6: a millisecond below the newest moment gets 11, whoever asks for whatever, and changes nothing; the
+    /// newest moment itself passes, and so does everything after a clear.
+    fn below_the_newest<R: Stored + Debug + PartialEq>() {
+        let mut table = Table::<R>::cleared(2);
+        assert_eq!(table.acquire(&plan(), 2000, 7, 2)[0], 0);
+        let before = table.clone();
+        for (subscriber, cost) in [(7, 1), (8, 1), (0, 1), (8, 0), (8, 3)] {
+            let early = [11, subscriber as u128, 0, 0, 0];
+            assert_eq!(table.acquire(&plan(), 1999, subscriber, cost), early);
+            assert_eq!(table.peek(&plan(), 1999, subscriber), early);
+        }
+        assert_eq!(table.peek(&plan(), 2000, 8), [0, 8, 2, 2000, 0]);
+        assert_eq!(table.acquire(&plan(), 2600, 7, 2)[0], 8);
+        assert_eq!(table, before); // neither a look nor a denial is an admission
+        assert_eq!(table.acquire(&plan(), 2000, 8, 1), [0, 8, 1, 2334, 0]);
+        assert_eq!(table.clear(), [0; 5]);
+        assert_eq!(table.acquire(&plan(), 0, 7, 1), [0, 7, 1, 334, 0]);
+    }
+
+    #[test]
+    fn document_02_item_6() {
+        below_the_newest::<Paced>();
+        below_the_newest::<Bucket>();
+    }
+
+    /// A stored newest moment beyond the clock stops every moment within it, until a clear; 3 goes before.
+    #[test]
+    fn a_newest_moment_beyond_the_clock() {
+        for newest in [4_398_046_511_104, u64::MAX] {
+            let mut table = Table::<Paced>::new(vec![0], vec![vec![0]], newest);
+            for moment in [0, 4_398_046_511_103] {
+                assert_eq!(table.acquire(&plan(), moment, 7, 1), [11, 7, 0, 0, 0]);
+                assert_eq!(table.peek(&plan(), moment, 7), [11, 7, 0, 0, 0]);
+            }
+            assert_eq!(table.acquire(&plan(), 4_398_046_511_104, 7, 1)[0], 3);
+            assert_eq!(table.newest, newest);
+            assert_eq!(table.clear(), [0; 5]);
+            assert_eq!(table.acquire(&plan(), 0, 7, 1)[0], 0);
+        }
+    }
+
     #[test]
     fn a_clear_zeroes_all_or_touches_nothing() {
-        let mut table = Table::<Bucket>::new(vec![7, 8], vec![vec![1, 2], vec![3, 4]]);
+        let mut table = Table::<Bucket>::new(vec![7, 8], vec![vec![1, 2], vec![3, 4]], 5);
         assert_eq!(table.clear(), [0; 5]);
         assert_eq!(table, Table::cleared(2));
-        let unequal = Table::<Bucket>::new(vec![7, 8], vec![vec![1, 2], vec![3]]);
+        let unequal = Table::<Bucket>::new(vec![7, 8], vec![vec![1, 2], vec![3]], 5);
         let mut table = unequal.clone();
         assert_eq!(table.clear(), [2, 0, 0, 0, 0]);
         assert_eq!(table.acquire(&plan(), 1000, 7, 1), [2, 7, 0, 0, 0]);

@@ -173,7 +173,7 @@ mod tests {
             ask 1334 7 3\nask 1334 8 2\nask 2000 8 2\nask 2000 7 1\nask 1999 8 1\n";
         let output = "outcome subscriber left reset wait\n\
             0 7 1 1334 0\n0 7 0 1667 0\n8 7 0 1667 334\n8 7 0 1667 1\n0 7 0 2000 0\n\
-            6 7 0 0 0\n9 8 0 0 0\n0 8 0 2667 0\n9 7 0 0 0\n7 8 0 0 0\n";
+            6 7 0 0 0\n9 8 0 0 0\n0 8 0 2667 0\n9 7 0 0 0\n11 8 0 0 0\n";
         assert_eq!(transcript(&tabbed(input)), tabbed(output));
         let lines = LINES.map(|(_, _, _, answer)| answer.map(|n| n.to_string()).join(" ") + "\n");
         assert_eq!(answers(input), lines.concat());
@@ -201,10 +201,8 @@ mod tests {
     fn the_table_that_is_left() {
         let lines = "plan 2 3 1000 2\nask 1000 7 1\nask 2000 8 2\nask 2000 9 1\n";
         let left = play(&tabbed(lines)).table.expect("a run");
-        assert_eq!(
-            (left.ids, left.columns),
-            (vec![8, 9], vec![vec![8000, 7000]])
-        );
+        let (ids, tats) = (vec![8, 9], vec![8000, 7000]);
+        assert_eq!(left, Table::new(ids, vec![tats], 2000));
         for refused in ["", "plan 0 3 1000 2\n", "plan 2 3 1000 2", "ask 1000 7 1\n"] {
             assert!(play(&tabbed(refused)).table.is_none(), "{refused:?}");
         }

@@ -1,10 +1,10 @@
-//! Document 01, 'The run', of the second implementation itself: while the moments do not fall, both tables and the book
-//! answer alike at every place.
+//! Document 01, 'The run', of the second implementation itself: both tables and the book answer alike at every place, and have
+//! the same newest moment, whether the moments rise or fall (document 02, Item 6).
 
 use model::book::Book;
 use model::decision::{Bucket, Paced};
 use model::plan::Plan;
-use model::table::Table;
+use model::table::{Answer, Table};
 
 /// A random number below `end`, by Knuth's generator.
 fn below(state: &mut u64, end: u64) -> u64 {
@@ -14,26 +14,80 @@ fn below(state: &mut u64, end: u64) -> u64 {
     (*state >> 33) % end
 }
 
-/// How often each number was answered in a run of 1000 asks and looks.
-fn run(plan: Plan, slots: usize, longest_step: u64, seed: u64) -> [u32; 10] {
-    let mut paced = Table::<Paced>::cleared(slots);
-    let mut bucket = Table::<Bucket>::cleared(slots);
-    let mut book = Book::new(plan, slots);
-    let (mut random, mut moment, mut counts) = (seed, 0, [0; 10]);
+/// Both tables and the book.
+struct Three {
+    plan: Plan,
+    paced: Table<Paced>,
+    bucket: Table<Bucket>,
+    book: Book,
+}
+
+impl Three {
+    fn new(plan: Plan, slots: usize) -> Three {
+        Three {
+            plan,
+            paced: Table::cleared(slots),
+            bucket: Table::cleared(slots),
+            book: Book::new(plan, slots),
+        }
+    }
+
+    fn acquire(&mut self, moment: u64, subscriber: u32, cost: u32) -> [Answer; 3] {
+        [
+            self.paced.acquire(&self.plan, moment, subscriber, cost),
+            self.bucket.acquire(&self.plan, moment, subscriber, cost),
+            self.book.acquire(moment, subscriber, cost),
+        ]
+    }
+
+    fn peek(&self, moment: u64, subscriber: u32) -> [Answer; 3] {
+        [
+            self.paced.peek(&self.plan, moment, subscriber),
+            self.bucket.peek(&self.plan, moment, subscriber),
+            self.book.peek(moment, subscriber),
+        ]
+    }
+
+    fn clear(&mut self) -> [Answer; 3] {
+        [self.paced.clear(), self.bucket.clear(), self.book.clear()]
+    }
+
+    fn newest(&self) -> [u128; 3] {
+        let (paced, bucket) = (self.paced.newest, self.bucket.newest);
+        [paced as u128, bucket as u128, self.book.newest()]
+    }
+}
+
+/// The clock's moment, or now and then one that falls: some way, to 0, or to where the newest moment is, just below it or just
+/// above it.
+fn read(random: &mut u64, clock: u64, newest: u64) -> u64 {
+    match below(random, 24) {
+        0 => clock.saturating_sub(below(random, 5000)),
+        1 => 0,
+        2 => newest.saturating_sub(1),
+        3 => newest,
+        4 => newest + 1,
+        _ => clock,
+    }
+}
+
+/// How often each number was answered in a run of 1000 calls.
+fn run(plan: Plan, slots: usize, longest_step: u64, seed: u64) -> [u32; 12] {
+    let mut three = Three::new(plan, slots);
+    let (mut random, mut clock, mut counts) = (seed, 0, [0; 12]);
     for place in 0..1000 {
-        moment += below(&mut random, longest_step + 1);
+        clock += below(&mut random, longest_step + 1);
+        let moment = read(&mut random, clock, three.paced.newest);
         let subscriber = below(&mut random, slots as u64 + 3) as u32;
         let cost = below(&mut random, plan.burst as u64 + 2) as u32;
-        let answers = if below(&mut random, 8) == 0 {
-            let seen = book.peek(moment, subscriber);
-            let other = bucket.peek(&plan, moment, subscriber);
-            [paced.peek(&plan, moment, subscriber), other, seen]
-        } else {
-            let asked = book.acquire(moment, subscriber, cost);
-            let other = bucket.acquire(&plan, moment, subscriber, cost);
-            [paced.acquire(&plan, moment, subscriber, cost), other, asked]
+        let answers = match below(&mut random, 200) {
+            0 => three.clear(),
+            1..=25 => three.peek(moment, subscriber),
+            _ => three.acquire(moment, subscriber, cost),
         };
         assert_eq!(answers, [answers[0]; 3], "seed {seed}, place {place}");
+        let newest = three.newest();
+        assert_eq!(newest, [newest[0]; 3], "seed {seed}, place {place}");
         counts[answers[0][0] as usize] += 1;
     }
     counts
@@ -41,7 +95,7 @@ fn run(plan: Plan, slots: usize, longest_step: u64, seed: u64) -> [u32; 10] {
 
 #[test]
 fn three_answers_are_equal() {
-    let mut counts = [0; 10];
+    let mut counts = [0; 12];
     for seed in 0..40 {
         let plan = Plan::new(3, 1000, 1 + seed % 4);
         let slots = 1 + seed as usize % 5;
@@ -56,7 +110,7 @@ fn three_answers_are_equal() {
             .zip(part)
             .for_each(|(all, one)| *all += one);
     }
-    for number in [0, 4, 5, 6, 8, 9] {
+    for number in [0, 4, 5, 6, 8, 9, 11] {
         assert!(counts[number] > 100, "number {number} is rare: {counts:?}");
     }
     assert_eq!(counts[7], 0);

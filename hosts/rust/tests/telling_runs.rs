@@ -1,5 +1,6 @@
-//! The runs that crates/law_history/must-fail names: each shows where a wrong variant of demand 3 would be false. Here they are
-//! played by both engines and the book as they are.
+//! The runs that crates/law_history/must-fail names: each shows where a wrong variant of demand 3, or of its companion about number
+//! 7, would be false. Here they are played by both engines and the book as they are. The run of demand_3_of_rising_runs is in
+//! worked_run.rs.
 
 use model::book::Book;
 use model::decision::{Bucket, Paced};
@@ -25,7 +26,8 @@ fn numbers(asks: &[(u64, u32, u32)]) -> Vec<[u128; 3]> {
     asks.iter().map(play).collect()
 }
 
-/// number_9_counts_the_caller, book_forgets, engines_agree_on_nonsense: line three of document 01.
+/// number_9_counts_the_caller, book_forgets, engines_agree_on_nonsense: line three of document 01. book_refuses_equal_moments:
+/// line two, at the moment of line one.
 #[test]
 fn a_shop_that_owes_asks_again() {
     let asks = [(1000, 7, 1), (1000, 7, 1), (1000, 7, 1)];
@@ -46,16 +48,22 @@ fn a_slot_is_free_at_the_moment_itself() {
     assert_eq!(numbers(&asks), [[0; 3], [0; 3], [9; 3], [0; 3]]);
 }
 
-/// premise_moments_may_fall: outside the premise the engines and the book may differ, and here they do.
+/// book_newest_of_the_caller: document 01's last line, by document 02's Item 6. A moment below the newest admission gets 11,
+/// whoever it was that was admitted; the same moment again does not.
 #[test]
 fn the_moments_of_asks_fall() {
-    assert_eq!(
-        numbers(&[(2000, 8, 2), (1999, 8, 1)]),
-        [[0, 0, 0], [7, 7, 8]]
-    );
+    let asks = [(2000, 8, 2), (1999, 8, 1), (1999, 7, 1), (2000, 8, 1)];
+    assert_eq!(numbers(&asks), [[0; 3], [11; 3], [11; 3], [8; 3]]);
 }
 
-/// premise_looks_may_fall: so may they where the moment of a look falls.
+/// What is denied is not admitted: after it the moment may fall as far as the newest admission.
+#[test]
+fn the_moments_fall_after_a_denial() {
+    let asks = [(1000, 7, 2), (1333, 7, 2), (1000, 8, 1), (999, 8, 1)];
+    assert_eq!(numbers(&asks), [[0; 3], [8; 3], [9; 3], [11; 3]]);
+}
+
+/// book_looks_back: the moment of a look falls, below the newest admission and above it; a look is none itself.
 #[test]
 fn the_moments_of_looks_fall() {
     let (mut paced, mut bucket) = (Table::<Paced>::cleared(1), Table::<Bucket>::cleared(1));
@@ -63,9 +71,16 @@ fn the_moments_of_looks_fall() {
     assert_eq!(paced.acquire(&plan(), 2000, 8, 2)[0], 0);
     assert_eq!(bucket.acquire(&plan(), 2000, 8, 2)[0], 0);
     assert_eq!(book.acquire(2000, 8, 2)[0], 0);
-    assert_eq!(paced.peek(&plan(), 1999, 8)[0], 7);
-    assert_eq!(bucket.peek(&plan(), 1999, 8)[0], 7);
-    assert_eq!(book.peek(1999, 8)[0], 0);
+    for (moment, subscriber, expected) in [
+        (9000, 7, [0, 7, 2, 9000, 0]),
+        (2000, 8, [0, 8, 0, 2667, 0]),
+        (1999, 8, [11, 8, 0, 0, 0]),
+        (1999, 7, [11, 7, 0, 0, 0]),
+    ] {
+        assert_eq!(paced.peek(&plan(), moment, subscriber), expected);
+        assert_eq!(bucket.peek(&plan(), moment, subscriber), expected);
+        assert_eq!(book.peek(moment, subscriber), expected);
+    }
 }
 
 /// another_reset_in_one_engine: a look at a stranger.
@@ -75,4 +90,11 @@ fn a_stranger_s_reset_is_the_moment() {
     assert_eq!(Table::<Paced>::cleared(1).peek(&plan(), 1000, 7), expected);
     assert_eq!(Table::<Bucket>::cleared(1).peek(&plan(), 1000, 7), expected);
     assert_eq!(Book::new(plan(), 1).peek(1000, 7), expected);
+}
+
+/// never_7_on_any_table: a table that no admission has left.
+#[test]
+fn a_damaged_table_gives_7() {
+    let table = Table::<Paced>::new(vec![7], vec![vec![1_000_000]], 0);
+    assert_eq!(table.peek(&plan(), 1000, 7), [7, 7, 0, 0, 0]);
 }

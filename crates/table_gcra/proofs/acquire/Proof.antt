@@ -19,13 +19,13 @@ use Rattle.table_gcra.proofs.acquire.Tie as tie
 -- what was asked, and of which table
 abbrev asks : tie.After-judge → Request Plan
 asks c =
-    let S = c .before .before .before .before .before .args in
+    let S = c .before .before .before .before .before .before .args in
     requestOf (S .plan) (S .moment .0) (S .subscriber) (S .cost)
 
 abbrev over : tie.After-judge → Table
 over c =
-    let S = c .before .before .before .before .before .args in
-    tableOf (now (S .ids)) (now (S .tats))
+    let S = c .before .before .before .before .before .before .args in
+    tableOf (now (S .ids)) (now (S .tats)) (now (S .newest))
 
 -- the place to write is a slot
 within :

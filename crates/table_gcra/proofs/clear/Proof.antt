@@ -18,7 +18,7 @@ returns : tie.Need-returns
 unfolding columns
 returns c =
     let S = c .before .before .before .before .before .args in
-    let t = tableOf (now (S .ids)) (now (S .tats)) in
+    let t = tableOf (now (S .ids)) (now (S .tats)) (now (S .newest)) in
     let counted = ap (λ (n : ℕ). slotsOk n) (sym (c .before .before .common .ensures)) ∙ sym (c .before .is-slot-count .ensures) in
     let step = clear-unfit columns t (counted ∙ not-true _ (c .if1 .taken)) in (
       cleared-unfit ∙ sym (ap (λ (s : Step Table). s .answer) step),
@@ -29,11 +29,11 @@ returns-2 : tie.Need-returns-2
 unfolding columns
 returns-2 c =
     let S = c .before .before .before .before .before .before .before .before .before .before .before .before .before .args in
-    let t = tableOf (now (S .ids)) (now (S .tats)) in
+    let t = tableOf (now (S .ids)) (now (S .tats)) (now (S .newest)) in
     let counted = ap (λ (n : ℕ). slotsOk n) (sym (c .before .before .before .before .before .before .before .before .before .before .common .ensures)) ∙ sym (c .before .before .before .before .before .before .before .before .before .is-slot-count .ensures) in
     let step = clear-done columns t (counted ∙ not-false _ (c .before .before .before .before .before .before .before .before .if1 .left)) in (
       cleared-done ∙ sym (ap (λ (s : Step Table). s .answer) step),
-      ap₂ (λ (ids tats : List ℕ). tableOf ids tats) (c .before .before .before .before .before .before .zero-u32 .ensures) (c .before .before .zero-u64 .ensures)
+      ap₂ (λ (ids tats : List ℕ). tableOf ids tats 0) (c .before .before .before .before .before .before .zero-u32 .ensures) (c .before .before .zero-u64 .ensures)
           ∙ sym (ap (λ (s : Step Table). s .after) step),
     )
 

@@ -22,13 +22,13 @@ use Rattle.table_gcra.proofs.peek.Tie as tie
 -- what was asked, of which table, and what the checks said of it
 abbrev asks : tie.After-query → Query Plan
 asks c =
-    let S = c .before .before .before .before .before .args in
+    let S = c .before .before .before .before .before .before .args in
     queryOf (S .plan) (S .moment .0) (S .subscriber)
 
 abbrev over : tie.After-query → Table
 over c =
-    let S = c .before .before .before .before .before .args in
-    tableOf (now (S .ids)) (now (S .tats))
+    let S = c .before .before .before .before .before .before .args in
+    tableOf (now (S .ids)) (now (S .tats)) (now (S .newest))
 
 says : (c : tie.After-query) → checkNumber (c .query .result) ≡ queryCheck (gate rule columns (asks c) (over c))
 unfolding columns
@@ -39,7 +39,7 @@ unfolding columns
 equal c passed = asked-equal _ _ _ refl (query-asked (gate rule columns (asks c) (over c)) (says c) passed)
 
 force : (c : tie.After-query) → c .query .result ≡ Passed → InForce (asks c .setting) (asks c .moment)
-force c passed = asked-in-force _ _ _ _ (query-asked (gate rule columns (asks c) (over c)) (says c) passed)
+force c passed = asked-in-force _ _ _ _ _ (query-asked (gate rule columns (asks c) (over c)) (says c) passed)
 
 returns : tie.Need-returns
 returns c =
@@ -58,18 +58,18 @@ returns-2 c =
     let passed = unknown .before .before .before in
     let checked = passed .before .before in
     let t = over checked in
-    let count = all-slots (t .ids) (t .tats) (equal checked (passed .enum-told .given .1)) in
+    let count = all-slots t (equal checked (passed .enum-told .given .1)) in
     peek-told rule columns t (asks checked) _
     (peeks-fresh rule columns t (asks checked) (says checked) (passed .enum-told .given .1)
     (own-found columns t count _ (unknown .before .before .find .ensures) (unknown .enum-told2 .given .1)) (c .before .fresh .ensures _ _) (c .report .ensures))
 
-mul-t9 : tie.Need-mul-t9
-mul-t9 c =
+mul-t12 : tie.Need-mul-t12
+mul-t12 c =
     let passed = c .before .before .before .before in
     omega (arith, equal (passed .before .before) (passed .enum-told .given .1), found-within _ (c .before .before .before .find .ensures) (c .before .own .given .1))
 
-shared-slice-read-t19 : tie.Need-shared-slice-read-t19
-shared-slice-read-t19 c =
+shared-slice-read-t11 : tie.Need-shared-slice-read-t11
+shared-slice-read-t11 c =
     let passed = c .before .before .before .before .before in
     omega (arith, equal (passed .before .before) (passed .enum-told .given .1), found-within _ (c .before .before .before .before .find .ensures) (c .before .before .own .given .1))
 
@@ -85,7 +85,7 @@ returns-3 c =
     let passed = found .before .before .before in
     let checked = passed .before .before in
     let t = over checked in
-    let count = all-slots (t .ids) (t .tats) (equal checked (passed .enum-told .given .1)) in
+    let count = all-slots t (equal checked (passed .enum-told .given .1)) in
     peek-told rule columns t (asks checked) _
     (peeks-own rule columns t (asks checked) (says checked) (passed .enum-told .given .1)
     (own-found columns t count _ (found .before .before .find .ensures) (found .own .given .1)) refl (c .report2 .ensures))
@@ -106,7 +106,7 @@ peek-spec =
     (λ c κs. search needs)
     report-requires
     returns-2
-    mul-t9
-    shared-slice-read-t19
+    mul-t12
+    shared-slice-read-t11
     report-requires-2
     returns-3)

@@ -19,13 +19,13 @@ use Rattle.table_token_bucket.proofs.acquire.Tie as tie
 -- what was asked, and of which table
 abbrev asks : tie.After-judge → Request Plan
 asks c =
-    let S = c .before .before .before .before .before .before .before .args in
+    let S = c .before .before .before .before .before .before .before .before .args in
     requestOf (S .plan) (S .moment .0) (S .subscriber) (S .cost)
 
 abbrev over : tie.After-judge → Table
 over c =
-    let S = c .before .before .before .before .before .before .before .args in
-    tableOf (now (S .ids)) (now (S .levels)) (now (S .lasts))
+    let S = c .before .before .before .before .before .before .before .before .args in
+    tableOf (now (S .ids)) (now (S .levels)) (now (S .lasts)) (now (S .newest))
 
 -- the place to write is a slot
 fits :

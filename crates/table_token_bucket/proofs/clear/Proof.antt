@@ -17,7 +17,7 @@ use Rattle.table_token_bucket.proofs.clear.Tie as tie
 returns : tie.Need-returns
 returns c =
     let S = c .before .before .before .before .before .before .before .args in
-    let t = tableOf (now (S .ids)) (now (S .levels)) (now (S .lasts)) in
+    let t = tableOf (now (S .ids)) (now (S .levels)) (now (S .lasts)) (now (S .newest)) in
     let slots = counted t (c .before .before .before .common .ensures) (c .before .before .common2 .ensures) in
     let fit = ap (λ (n : ℕ). slotsOk n) (sym slots) ∙ sym (c .before .is-slot-count .ensures) in
     let step = clear-unfit columns t (fit ∙ not-true _ (c .if1 .taken)) in (
@@ -29,12 +29,12 @@ returns-2 : tie.Need-returns-2
 unfolding columns
 returns-2 c =
     let S = c .before .before .before .before .before .before .before .before .before .before .before .before .before .before .before .before .before .before .before .args in
-    let t = tableOf (now (S .ids)) (now (S .levels)) (now (S .lasts)) in
+    let t = tableOf (now (S .ids)) (now (S .levels)) (now (S .lasts)) (now (S .newest)) in
     let slots = counted t (c .before .before .before .before .before .before .before .before .before .before .before .before .before .before .before .common .ensures) (c .before .before .before .before .before .before .before .before .before .before .before .before .before .before .common2 .ensures) in
     let fit = ap (λ (n : ℕ). slotsOk n) (sym slots) ∙ sym (c .before .before .before .before .before .before .before .before .before .before .before .before .before .is-slot-count .ensures) in
     let step = clear-done columns t (fit ∙ not-false _ (c .before .before .before .before .before .before .before .before .before .before .before .before .if1 .left)) in (
       cleared-done ∙ sym (ap (λ (s : Step Table). s .answer) step),
-      same-table (c .before .before .before .before .before .before .before .before .before .before .zero-u32 .ensures) (c .before .before .before .before .before .before .zero-u64 .ensures) (c .before .before .zero-u642 .ensures) ∙ sym (ap (λ (s : Step Table). s .after) step),
+      same-table 0 (c .before .before .before .before .before .before .before .before .before .before .zero-u32 .ensures) (c .before .before .before .before .before .before .zero-u64 .ensures) (c .before .before .zero-u642 .ensures) ∙ sym (ap (λ (s : Step Table). s .after) step),
     )
 
 pub clear-spec : {M : Type 1} → statement M

@@ -20,23 +20,24 @@ use Rattle.table_token_bucket.proofs.peek.Tie as tie
 -- what was asked, of which table, and what the checks said of it
 abbrev asks : tie.After-query → Query Plan
 asks c =
-    let S = c .before .before .before .before .before .before .before .args in
+    let S = c .before .before .before .before .before .before .before .before .args in
     queryOf (S .plan) (S .moment .0) (S .subscriber)
 
 abbrev over : tie.After-query → Table
 over c =
-    let S = c .before .before .before .before .before .before .before .args in
-    tableOf (now (S .ids)) (now (S .levels)) (now (S .lasts))
+    let S = c .before .before .before .before .before .before .before .before .args in
+    tableOf (now (S .ids)) (now (S .levels)) (now (S .lasts)) (now (S .newest))
 
 says : (c : tie.After-query) → checkNumber (c .query .result) ≡ queryCheck (gate rule columns (asks c) (over c))
+unfolding columns
 says c = query-says rule columns (over c) (asks c) (c .query .ensures) (c .before .is-ok .ensures)
     (counted (over c) (c .before .before .before .common .ensures) (c .before .before .common2 .ensures))
 
-even-there : (c : tie.After-query) → c .query .result ≡ Passed → Even (over c)
+even-there : (c : tie.After-query) → c .query .result ≡ Passed → Even (over c .ids) (over c .levels) (over c .lasts)
 even-there c passed = even (over c) _ refl (query-asked (gate rule columns (asks c) (over c)) (says c) passed)
 
 force : (c : tie.After-query) → c .query .result ≡ Passed → InForce (asks c .setting) (asks c .moment)
-force c passed = asked-in-force _ _ _ _ (query-asked (gate rule columns (asks c) (over c)) (says c) passed)
+force c passed = asked-in-force _ _ _ _ _ (query-asked (gate rule columns (asks c) (over c)) (says c) passed)
 
 returns : tie.Need-returns
 returns c =

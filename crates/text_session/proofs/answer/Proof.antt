@@ -10,28 +10,31 @@ use Rattle.text_session.proofs.answer.Tie as tie
 
 other-requires : tie.Need-other-requires
 other-requires c κs =
-    let p3 = c .before .before .before in
-    let start = p3 .before .before .before .before in
-    open-room (p3 .stage .given .1) (start .pre .1) (start .pre .0)
+    let p4 = c .before .before .before .before in
+    let start = p4 .before .before .before .before in
+    open-room (p4 .stage .given .1) (start .pre .1) (start .pre .0)
 
 returns : tie.Need-returns
 returns c =
     let p4 = c .before .before .before .before in
-    let p7 = p4 .before .before .before in
-    let S = p7 .before .before .before .before .args in
-    p4 .first .ensures ∙ answer-first (S .command) (tableOf (now (S .ids)) (now (S .tats))) (p7 .enum-told .given .1)
+    let p8 = p4 .before .before .before .before in
+    let S = p8 .before .before .before .before .args in
+    let t = tableOf (now (S .ids)) (now (S .tats)) (now (S .newest)) in
+    p4 .first .ensures ∙ answer-first (S .command) t (p8 .enum-told .given .1)
 
 returns-2 : tie.Need-returns-2
 returns-2 c =
     let p4 = c .before .before .before .before in
-    let p8 = p4 .before .before .before .before in
-    let S = p8 .before .before .before .before .args in
-    p4 .other .ensures ∙ answer-open (S .command) (tableOf (now (S .ids)) (now (S .tats))) (p8 .stage .given .1)
+    let p9 = p4 .before .before .before .before .before in
+    let S = p9 .before .before .before .before .args in
+    let t = tableOf (now (S .ids)) (now (S .tats)) (now (S .newest)) in
+    p4 .other .ensures ∙ answer-open (S .command) t (p9 .stage .given .1)
 
 returns-3 : tie.Need-returns-3
 returns-3 c =
     let S = c .before .before .before .before .args in
-    answer-over (S .command) (tableOf (now (S .ids)) (now (S .tats))) (c .enum-told2 .given .1)
+    let t = tableOf (now (S .ids)) (now (S .tats)) (now (S .newest)) in
+    answer-over (S .command) t (c .enum-told2 .given .1)
 
 pub answer-spec : {M : Type 1} → statement M
 answer-spec =

@@ -41,16 +41,16 @@ returns c =
     let p4 = c .before .before .before .before in
     let S = p4 .before .before .before .args in
     let comes = sym (p4 .«open» .ensures) ∙ c .before .before .number .given .1 in
-    first-refused (S .command) (tableOf (now (S .ids)) (now (S .tats))) comes (c .refusal .ensures)
+    first-refused (S .command) (tableOf (now (S .ids)) (now (S .tats)) (now (S .newest))) comes (c .refusal .ensures)
 
 returns-2 : tie.Need-returns-2
 returns-2 c =
     let p4 = c .before .before .before .before in
-    let p8 = p4 .before .before .before .before in
-    let p10 = p8 .before .before in
-    let S = p10 .before .before .before .args in
-    let comes = sym (p10 .«open» .ensures) ∙ p8 .plan .given .1 in
-    first-opened (S .command) (tableOf (now (S .ids)) (now (S .tats))) comes (p4 .clear .ensures .1)
+    let p9 = p4 .before .before .before .before .before in
+    let p11 = p9 .before .before in
+    let S = p11 .before .before .before .args in
+    let comes = sym (p11 .«open» .ensures) ∙ p9 .plan .given .1 in
+    first-opened (S .command) (tableOf (now (S .ids)) (now (S .tats)) (now (S .newest))) comes (p4 .clear .ensures .1)
 
 pub first-spec : {M : Type 1} → statement M
 first-spec =

@@ -12,7 +12,8 @@ use Rattle.text_session.proofs.other.Tie as tie
 returns : tie.Need-returns
 returns c =
     let S = c .before .before .before .before .args in
-    other-refused (S .plan) (S .slots) (S .command) (tableOf (now (S .ids)) (now (S .tats))) (c .before .match .keys2) (c .refusal .ensures)
+    let t = tableOf (now (S .ids)) (now (S .tats)) (now (S .newest)) in
+    other-refused (S .plan) (S .slots) (S .command) t (c .before .match .keys2) (c .refusal .ensures)
 
 slice-aggregate-acquire : tie.Need-slice-aggregate-acquire
 slice-aggregate-acquire c =
@@ -27,10 +28,11 @@ slice-aggregate-acquire-2 c =
 returns-2 : tie.Need-returns-2
 returns-2 c =
     let p5 = c .before .before .before .before .before in
-    let p9 = p5 .before .before .before .before in
-    let S = p9 .before .before .before .before .args in
+    let p10 = p5 .before .before .before .before .before in
+    let S = p10 .before .before .before .before .args in
+    let t = tableOf (now (S .ids)) (now (S .tats)) (now (S .newest)) in
     let acquire = p5 .acquire in
-    other-asked (S .plan) (S .slots) (S .command) (tableOf (now (S .ids)) (now (S .tats))) (p9 .command .given .1)
+    other-asked (S .plan) (S .slots) (S .command) t (p10 .command .given .1)
     (acquire .result) (acquire .ensures .0) (c .to-numbers .ensures) (acquire .ensures .1)
 
 pub other-spec : {M : Type 1} → statement M

@@ -1,33 +1,35 @@
 //! The proved archive's calls that are timed.
 
 use crate::call::{Answer, Ask, Plan};
+use crate::table::Table;
 use railcadence::numbers;
 
-pub fn gcra_acquire(plan: &Plan, ids: &mut [u32], tats: &mut [u64], ask: &Ask, out: &mut Answer) {
+pub fn gcra_acquire(plan: &Plan, table: &mut Table, ask: &Ask, out: &mut Answer) {
+    let (ids, tats, newest) = (&mut table.ids, &mut table.records, &mut table.newest);
     let (moment, subscriber, cost) = (ask.moment, ask.subscriber, ask.cost);
-    numbers::gcra_acquire(plan, ids, tats, moment, subscriber, cost, out);
+    numbers::gcra_acquire(plan, ids, tats, newest, moment, subscriber, cost, out);
 }
 
-pub fn gcra_clear(ids: &mut [u32], tats: &mut [u64]) -> Answer {
+pub fn gcra_clear(table: &mut Table) -> Answer {
     let mut out = [0; 5];
-    numbers::gcra_clear(ids, tats, &mut out);
+    let (ids, tats, newest) = (&mut table.ids, &mut table.records, &mut table.newest);
+    numbers::gcra_clear(ids, tats, newest, &mut out);
     out
 }
 
-pub fn token_bucket_acquire(
-    plan: &Plan,
-    ids: &mut [u32],
-    levels: &mut [u64],
-    lasts: &mut [u64],
-    ask: &Ask,
-    out: &mut Answer,
-) {
+pub fn token_bucket_acquire(plan: &Plan, table: &mut Table, ask: &Ask, out: &mut Answer) {
+    let (ids, newest) = (&mut table.ids, &mut table.newest);
+    let (levels, lasts) = (&mut table.records, &mut table.lasts);
     let (moment, subscriber, cost) = (ask.moment, ask.subscriber, ask.cost);
-    numbers::token_bucket_acquire(plan, ids, levels, lasts, moment, subscriber, cost, out);
+    numbers::token_bucket_acquire(
+        plan, ids, levels, lasts, newest, moment, subscriber, cost, out,
+    );
 }
 
-pub fn token_bucket_clear(ids: &mut [u32], levels: &mut [u64], lasts: &mut [u64]) -> Answer {
+pub fn token_bucket_clear(table: &mut Table) -> Answer {
     let mut out = [0; 5];
-    numbers::token_bucket_clear(ids, levels, lasts, &mut out);
+    let (ids, newest) = (&mut table.ids, &mut table.newest);
+    let (levels, lasts) = (&mut table.records, &mut table.lasts);
+    numbers::token_bucket_clear(ids, levels, lasts, newest, &mut out);
     out
 }

@@ -1,13 +1,19 @@
 //! The untimed pass: all contenders must give the same answers and leave the same table.
 
 use crate::call::{Answer, Ask};
-use crate::contender::{Contender, Engine, Table};
+use crate::contender::{Contender, Engine};
 use crate::load::{Load, PLAN};
+use crate::table::Table;
+
+/// An ask before the newest moment.
+const EARLY: u64 = 11;
+/// The numbers from 0 to 11.
+pub const NUMBERS: usize = 12;
 
 /// What all agree on.
 pub struct Agreed {
     /// How many of the asks got each number.
-    pub counts: [u64; 10],
+    pub counts: [u64; NUMBERS],
     /// The table before the asks, and after them.
     pub start: Table,
     pub end: Table,
@@ -33,12 +39,13 @@ pub fn compare(engine: &Engine, load: &Load) -> Result<Agreed, String> {
             return Err("the warm-up leaves another table than a spent one".to_string());
         }
     }
-    let mut counts = [0; 10];
+    let mut counts = [0; NUMBERS];
     for ask in &load.asks {
         let answer = ask_all(&engine.contenders, &mut tables, ask)?;
         let count = counts.get_mut(answer[0] as usize);
         *count.ok_or(format!("no such number: {}", words(ask, &answer)))? += 1;
     }
+    ask_too_early(&engine.contenders, &mut tables)?;
     let [end, index, position] = tables;
     if end != index || end != position {
         return Err("the tables differ at the end".to_string());
@@ -49,11 +56,23 @@ pub fn compare(engine: &Engine, load: &Load) -> Result<Agreed, String> {
 fn clear_all(contenders: &[Contender; 3], tables: &mut [Table; 3]) -> Result<(), String> {
     for (contender, table) in contenders.iter().zip(tables) {
         let answer = (contender.clear)(table);
-        let mut records = table.records.iter().chain(&table.lasts);
-        let used = table.ids.iter().any(|&id| id != 0) || records.any(|&word| word != 0);
-        if answer != [0; 5] || used {
+        if answer != [0; 5] || !table.is_all_zeros() {
             return Err("a table is not all zeros after its clear".to_string());
         }
+    }
+    Ok(())
+}
+
+/// The moments of a load never fall. One that does gets the same from all, and leaves the tables as they are.
+fn ask_too_early(contenders: &[Contender; 3], tables: &mut [Table; 3]) -> Result<(), String> {
+    let ask = Ask {
+        moment: tables[0].newest - 1,
+        subscriber: 1,
+        cost: 1,
+    };
+    let answer = ask_all(contenders, tables, &ask)?;
+    if answer[0] != EARLY {
+        return Err(format!("{EARLY} is due: {}", words(&ask, &answer)));
     }
     Ok(())
 }

@@ -1,34 +1,18 @@
 //! Who is timed: of each engine the proved one, and the plain one with either search. All are called alike, by a pointer to
-//! the function, over columns of the same kinds, and write their five numbers where they are told.
+//! the function, over a table of the same columns, and write their five numbers where they are told.
 
 use crate::archive;
 use crate::call::{Answer, Ask, Plan};
 use crate::load::{Load, PLAN, START};
 use crate::plain::search::{Index, Position};
 use crate::plain::{gcra, token_bucket};
-
-/// The ids, and the columns of the record: GCRA's TATs and nothing, or the token bucket's levels and last moments.
-#[derive(Clone, PartialEq, Eq)]
-pub struct Table {
-    pub ids: Vec<u32>,
-    pub records: Vec<u64>,
-    pub lasts: Vec<u64>,
-}
-
-impl Table {
-    /// Makes it the same as another of the same lengths.
-    pub fn copy_from(&mut self, other: &Table) {
-        self.ids.copy_from_slice(&other.ids);
-        self.records.copy_from_slice(&other.records);
-        self.lasts.copy_from_slice(&other.lasts);
-    }
-}
+use crate::table::Table;
 
 pub type Acquire = fn(&Plan, &mut Table, &Ask, &mut Answer);
 
 pub struct Contender {
     pub acquire: Acquire,
-    /// Makes every column all zeros, and answers 0.
+    /// Makes every column and the newest moment all zeros, and answers 0.
     pub clear: fn(&mut Table) -> Answer,
 }
 
@@ -46,13 +30,15 @@ impl Engine {
             ids: vec![7; slots],
             records: vec![7; slots],
             lasts: vec![7; if self.has_lasts { slots } else { 0 }],
+            newest: 7,
         }
     }
 
     /// The table in which every holder of the load has spent the whole burst at the start.
     pub fn spent_table(&self, load: &Load) -> Table {
         let mut table = self.used_table(load.slots);
-        fill_with_zeros(&mut table);
+        table.fill_with_zeros();
+        table.newest = START;
         let held = load.holders.len();
         table.ids[..held].copy_from_slice(&load.holders);
         if self.has_lasts {
@@ -71,23 +57,11 @@ pub const ENGINES: [Engine; 2] = [
         has_lasts: false,
         contenders: [
             Contender {
-                acquire: |plan, t, ask, out| {
-                    archive::gcra_acquire(plan, &mut t.ids, &mut t.records, ask, out)
-                },
-                clear: |t| archive::gcra_clear(&mut t.ids, &mut t.records),
+                acquire: archive::gcra_acquire,
+                clear: archive::gcra_clear,
             },
-            Contender {
-                acquire: |plan, t, ask, out| {
-                    gcra::acquire::<Index>(plan, &mut t.ids, &mut t.records, ask, out)
-                },
-                clear: fill_with_zeros,
-            },
-            Contender {
-                acquire: |plan, t, ask, out| {
-                    gcra::acquire::<Position>(plan, &mut t.ids, &mut t.records, ask, out)
-                },
-                clear: fill_with_zeros,
-            },
+            plain(gcra::acquire::<Index>),
+            plain(gcra::acquire::<Position>),
         ],
     },
     Engine {
@@ -95,33 +69,18 @@ pub const ENGINES: [Engine; 2] = [
         has_lasts: true,
         contenders: [
             Contender {
-                acquire: |plan, t, ask, out| {
-                    let (ids, levels, lasts) = (&mut t.ids, &mut t.records, &mut t.lasts);
-                    archive::token_bucket_acquire(plan, ids, levels, lasts, ask, out)
-                },
-                clear: |t| archive::token_bucket_clear(&mut t.ids, &mut t.records, &mut t.lasts),
+                acquire: archive::token_bucket_acquire,
+                clear: archive::token_bucket_clear,
             },
-            Contender {
-                acquire: |plan, t, ask, out| {
-                    let (ids, levels, lasts) = (&mut t.ids, &mut t.records, &mut t.lasts);
-                    token_bucket::acquire::<Index>(plan, ids, levels, lasts, ask, out)
-                },
-                clear: fill_with_zeros,
-            },
-            Contender {
-                acquire: |plan, t, ask, out| {
-                    let (ids, levels, lasts) = (&mut t.ids, &mut t.records, &mut t.lasts);
-                    token_bucket::acquire::<Position>(plan, ids, levels, lasts, ask, out)
-                },
-                clear: fill_with_zeros,
-            },
+            plain(token_bucket::acquire::<Index>),
+            plain(token_bucket::acquire::<Position>),
         ],
     },
 ];
 
-fn fill_with_zeros(table: &mut Table) -> Answer {
-    table.ids.fill(0);
-    table.records.fill(0);
-    table.lasts.fill(0);
-    [0; 5]
+const fn plain(acquire: Acquire) -> Contender {
+    Contender {
+        acquire,
+        clear: Table::fill_with_zeros,
+    }
 }

@@ -12,8 +12,10 @@ mod layouts;
 mod load;
 mod plain;
 mod row;
+mod table;
 mod time;
 
+use compare::NUMBERS;
 use contender::{Engine, ENGINES};
 use load::{Kind, Load, KINDS, PLAN};
 use row::Row;
@@ -90,7 +92,7 @@ fn read(mut words: impl Iterator<Item = String>) -> Option<Options> {
 }
 
 /// How many asks got each number.
-fn numbers(counts: &[u64; 10]) -> String {
+fn numbers(counts: &[u64; NUMBERS]) -> String {
     let seen = counts.iter().enumerate().filter(|(_, &count)| count > 0);
     let words: Vec<String> = seen.map(|(n, count)| format!("{count} x {n}")).collect();
     words.join(", ")

@@ -13,8 +13,8 @@ const MOST_BURST: u32 = 1_000_000;
 const MOST_SLOTS: usize = 65_535;
 const LAST_MOMENT: u64 = (1 << 42) - 1;
 
-/// The number of the first check that applies, of 1 to 6.
-fn check(plan: &Plan, slots: Option<usize>, ask: &Ask) -> Option<u64> {
+/// The number of the first check that applies, of 1, 2, 3, 11, 4, 5 and 6.
+fn check(plan: &Plan, slots: Option<usize>, newest: u64, ask: &Ask) -> Option<u64> {
     let within = |number: u32, most: u32| 1 <= number && number <= most;
     if !within(plan.limit, MOST_LIMIT)
         || !within(plan.period, MOST_PERIOD)
@@ -27,6 +27,9 @@ fn check(plan: &Plan, slots: Option<usize>, ask: &Ask) -> Option<u64> {
     }
     if ask.moment > LAST_MOMENT {
         return Some(3);
+    }
+    if ask.moment < newest {
+        return Some(11);
     }
     if ask.subscriber == 0 {
         return Some(4);

@@ -3,8 +3,9 @@
 use crate::call::{Ask, Plan};
 use crate::clock;
 use crate::compare::Agreed;
-use crate::contender::{Acquire, Contender, Engine, Table};
+use crate::contender::{Acquire, Contender, Engine};
 use crate::load::{Load, PLAN};
+use crate::table::Table;
 use std::hint::black_box;
 
 /// The median nanoseconds per acquire of each contender.

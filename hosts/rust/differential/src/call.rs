@@ -1,6 +1,7 @@
 //! A call with its arguments, and the plan it is made under.
 
 use model::plan::Plan;
+use model::table::{Answer, Stored, Table};
 use std::fmt;
 
 /// The numbers of a plan as the archive takes them.
@@ -26,6 +27,27 @@ pub enum Call {
 }
 
 impl Call {
+    /// The model's answer on a table.
+    pub fn on<R: Stored>(&self, plan: &Plan, table: &mut Table<R>) -> Answer {
+        match *self {
+            Call::Acquire {
+                moment,
+                subscriber,
+                cost,
+            } => table.acquire(plan, moment, subscriber, cost),
+            Call::Peek { moment, subscriber } => table.peek(plan, moment, subscriber),
+            Call::Clear => table.clear(),
+        }
+    }
+
+    /// The moment of an acquire or a peek.
+    pub fn moment(&self) -> Option<u64> {
+        match *self {
+            Call::Acquire { moment, .. } | Call::Peek { moment, .. } => Some(moment),
+            Call::Clear => None,
+        }
+    }
+
     pub fn subscriber(&self) -> u32 {
         match *self {
             Call::Acquire { subscriber, .. } | Call::Peek { subscriber, .. } => subscriber,

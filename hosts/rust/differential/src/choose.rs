@@ -136,11 +136,12 @@ enum Mood {
 
 const MOODS: [Mood; 4] = [Mood::Any, Mood::Full, Mood::OneFree, Mood::Known];
 
-/// A table that is damaged in one way or another: ids twice, records of empty slots, impossible records, and columns
-/// of unequal lengths.
+/// A table that is damaged in one way or another: ids twice, records of empty slots, impossible records, a newest moment that
+/// nothing was admitted at, and columns of unequal lengths.
 fn table<E: Engine>(rng: &mut Rng, around: &Around, slots: usize) -> Table<E> {
     let mood = rng.pick(&MOODS);
     let mut table = Table::<E>::cleared(slots);
+    table.newest = newest(rng, around.moment as u64);
     let drawn = slots.min(MOST_DRAWN);
     for slot in 0..drawn {
         table.ids[slot] = id(rng, around.subscriber, mood);
@@ -159,6 +160,20 @@ fn table<E: Engine>(rng: &mut Rng, around: &Around, slots: usize) -> Table<E> {
         cut(rng, &mut table);
     }
     table
+}
+
+/// A newest moment for a call at this moment: mostly one that lets it pass, also just so; or one beyond it, just so, at the
+/// end of the clock, or anywhere.
+fn newest(rng: &mut Rng, moment: u64) -> u64 {
+    match rng.below(16) {
+        0 => rng.next(),
+        1 => rng.pick(&[LAST, LAST + 1, u64::MAX]),
+        2 | 3 => moment.saturating_add(1),
+        4..=6 => moment,
+        7 => moment.saturating_sub(1),
+        8..=11 => 0,
+        _ => rng.of_any_size(moment.max(1)).min(moment),
+    }
 }
 
 /// How many slots a table has; now and then none, or one too many.

@@ -1,11 +1,12 @@
-//! One call, made both to the archive and to the model on equal tables, and compared whole: the answer, every column, and
-//! the guards around the columns and around the answer.
+//! One call, made both to the archive and to the model on equal tables, and compared whole: the answer, every column, the
+//! newest moment, and the guards around them.
 
 use crate::call::{plan_of, Call, Terms};
+use crate::choose::LAST;
 use crate::engine::Engine;
 use crate::lent::Lent;
 use crate::out::Out;
-use crate::spoil::{Done, Fault, Spoil};
+use crate::spoil::{self, Done, Fault, Spoil};
 use model::table::{Answer, Table};
 use std::array;
 
@@ -22,6 +23,9 @@ pub struct Pair<E> {
     real: Lent,
     before: Table<E>,
     fault: Option<Fault>,
+    /// The latest moment on the clock since the last clear, and whether that of the last call was an earlier one.
+    latest: u64,
+    fell: bool,
 }
 
 impl<E: Engine> Pair<E> {
@@ -32,6 +36,8 @@ impl<E: Engine> Pair<E> {
             before: table.clone(),
             model: table,
             fault: spoil.and_then(|spoil| spoil.of_engine(E::NAME)),
+            latest: 0,
+            fell: false,
         }
     }
 
@@ -39,6 +45,8 @@ impl<E: Engine> Pair<E> {
     pub fn call(&mut self, call: &Call) -> Result<Answer, Difference> {
         self.before.ids.clone_from(&self.model.ids);
         self.before.columns.clone_from(&self.model.columns);
+        self.before.newest = self.model.newest;
+        self.follow_the_clock(call);
         let expected = self.ask_model(call);
         let out = self.ask_archive(call);
         let answer: Answer = array::from_fn(|i| u128::from(out[i]));
@@ -46,10 +54,10 @@ impl<E: Engine> Pair<E> {
             return Err(self.difference(call, "the answers differ", expected, answer));
         }
         if !self.real.holds(&self.model) {
-            return Err(self.difference(call, "the columns differ afterwards", expected, answer));
+            return Err(self.difference(call, "the tables differ afterwards", expected, answer));
         }
         if !self.real.intact() {
-            let what = "the archive wrote outside the columns";
+            let what = "the archive wrote outside the columns or the newest moment";
             return Err(self.difference(call, what, expected, answer));
         }
         if !out.intact() {
@@ -79,23 +87,29 @@ impl<E: Engine> Pair<E> {
         before != 0 && before != subscriber
     }
 
-    fn ask_model(&mut self, call: &Call) -> Answer {
-        let plan = plan_of(&self.terms);
-        match *call {
-            Call::Acquire {
-                moment,
-                subscriber,
-                cost,
-            } => {
-                let mut answer = self.model.acquire(&plan, moment, subscriber, cost);
-                if self.fault == Some(Fault::Nonsense) && matches!(answer[0], 0 | 8) {
-                    answer[3] += 1; // as `Done::spoil` does to the archive's
-                }
-                answer
+    /// Whether the last call's moment lay before that of an earlier one.
+    pub fn fell(&self) -> bool {
+        self.fell
+    }
+
+    fn follow_the_clock(&mut self, call: &Call) {
+        match call.moment() {
+            Some(moment) if moment > LAST => self.fell = false,
+            Some(moment) => {
+                self.fell = moment < self.latest;
+                self.latest = self.latest.max(moment);
             }
-            Call::Peek { moment, subscriber } => self.model.peek(&plan, moment, subscriber),
-            Call::Clear => self.model.clear(),
+            None => (self.latest, self.fell) = (0, false),
         }
+    }
+
+    fn ask_model(&mut self, call: &Call) -> Answer {
+        let mut answer = call.on(&plan_of(&self.terms), &mut self.model);
+        if let Some(fault) = self.fault {
+            spoil::model_answer(fault, call, &mut answer);
+            spoil::model_newest(fault, call, &answer, &mut self.model.newest);
+        }
+        answer
     }
 
     fn ask_archive(&mut self, call: &Call) -> Out {
@@ -119,13 +133,17 @@ impl<E: Engine> Pair<E> {
         text + &self.rows(call)
     }
 
-    /// The columns before the call, after it as expected, and after it in the archive's table: the first slots, those of
-    /// the subscriber, and those that differ.
+    /// The newest moment and the columns before the call, after it as expected, and after it in the archive's table; of the
+    /// slots the first, those of the subscriber, and those that differ.
     pub fn rows(&self, call: &Call) -> String {
         let ids = self.before.ids.len();
         let lengths: Vec<usize> = self.before.columns.iter().map(Vec::len).collect();
         let slots = lengths.iter().fold(ids, |a, &b| a.max(b));
         let mut text = format!("  lengths   ids {ids}, others {lengths:?}\n");
+        text += &format!(
+            "  newest    before {}  expected {}  archive {}\n",
+            self.before.newest, self.model.newest, self.real.newest[0]
+        );
         text += &format!(
             "  a slot is (id {}) before and after; '-' is beyond a column\n",
             E::COLUMNS.join(" ")

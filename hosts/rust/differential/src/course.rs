@@ -1,11 +1,14 @@
 //! The calls of one long run under one plan: a clock that mostly creeps, more subscribers than slots, and costs that keep
-//! slots busy, so that throttling, refilling, takeover of free slots and a full table all occur again and again.
+//! slots busy, so that throttling, refilling, takeover of free slots and a full table all occur again and again; and if the
+//! clock falls, moments below the newest admission, at it and above it.
 
 use crate::call::{plan_of, Call, Terms};
 use crate::choose::{self, LAST};
 use crate::rng::Rng;
 use model::plan::div_up;
 use model::table::Answer;
+
+const HOUR: u64 = 3_600_000;
 
 /// How many slots: few; from 41 to 4,096; or exactly so many, which are filled once, under a plan and at moments that let
 /// everybody come to owe nothing then.
@@ -24,7 +27,10 @@ pub struct Course {
     /// Where the slots are many, how many subscribers are still to ask one after the other, until the table is full.
     to_come: u32,
     falls: bool,
+    /// What the clock shows.
     moment: u64,
+    /// The newest moment at which anything was admitted, as the answers tell.
+    newest: u64,
     /// In how many milliseconds a whole burst drains.
     drain: u64,
     /// The longest ordinary step of the clock.
@@ -72,6 +78,7 @@ impl Course {
             to_come: 0,
             falls,
             moment: 0,
+            newest: 0,
             drain,
             pace: rng.pick(&[1, share / 8, share / 2, share, 2 * share]),
         };
@@ -92,7 +99,7 @@ impl Course {
         }
     }
 
-    /// At the start, and anew after a clear: moments may fall there.
+    /// At the start, and anew after a clear: there also a clock that rises may begin earlier.
     pub fn start_the_clock(&mut self, rng: &mut Rng) {
         self.moment = match rng.below(4) {
             0 => 0,
@@ -117,6 +124,7 @@ impl Course {
 
     /// The next call, after one that got this answer.
     pub fn next(&mut self, rng: &mut Rng, last: &Call, answer: &Answer) -> Call {
+        self.hear(last, answer);
         if self.to_come > 0 {
             return self.newcomer(rng);
         }
@@ -129,6 +137,14 @@ impl Course {
         }
         self.tick(rng);
         self.anybody(rng)
+    }
+
+    fn hear(&mut self, last: &Call, answer: &Answer) {
+        match (last, answer[0]) {
+            (Call::Acquire { moment, .. }, 0) => self.newest = *moment,
+            (Call::Clear, _) => self.newest = 0,
+            _ => (),
+        }
     }
 
     fn newcomer(&mut self, rng: &mut Rng) -> Call {
@@ -144,9 +160,12 @@ impl Course {
         }
     }
 
-    /// A call of anybody; now and then one that is refused.
+    /// A call of anybody; now and then one that is refused, or whose moment alone falls.
     fn anybody(&self, rng: &mut Rng) -> Call {
-        let mut moment = self.moment;
+        let mut moment = match self.falls && rng.once_in(12) {
+            true => self.earlier(rng),
+            false => self.moment,
+        };
         let mut subscriber = rng.from(1, self.subscribers) as u32;
         let mut cost = self.cost(rng);
         match rng.below(160) {
@@ -212,9 +231,34 @@ impl Course {
             rng.from(0, self.pace)
         };
         self.moment = self.moment.saturating_add(step).min(LAST);
-        if self.falls && rng.once_in(12) {
-            let back = rng.pick(&[1, self.pace, self.drain]);
-            self.moment = self.moment.saturating_sub(rng.from(1, back.max(1)));
+        if self.falls {
+            self.put_back(rng);
         }
+    }
+
+    /// Now and then the clock is put back; and some calls later it is put right, if that is below the newest admission.
+    fn put_back(&mut self, rng: &mut Rng) {
+        if self.moment >= self.newest {
+            if rng.once_in(64) {
+                self.moment = self.earlier(rng);
+            }
+        } else if rng.once_in(8) {
+            self.moment = (self.newest + rng.from(0, self.pace)).min(LAST);
+        }
+    }
+
+    /// A moment some way before what the clock shows, or an hour, or 0; or the newest admission's, just before it or just
+    /// after, if the clock has come so far.
+    fn earlier(&self, rng: &mut Rng) -> u64 {
+        let back = rng.pick(&[1, self.pace, self.drain]).max(1);
+        let moment = match rng.below(8) {
+            0 => 0,
+            1 => self.newest.saturating_sub(1),
+            2 => self.newest,
+            3 => self.newest + 1,
+            4 => self.moment.saturating_sub(HOUR),
+            _ => self.moment.saturating_sub(rng.from(1, back)),
+        };
+        moment.min(self.moment)
     }
 }

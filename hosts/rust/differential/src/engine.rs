@@ -29,16 +29,17 @@ impl Engine for Paced {
 
     fn call(terms: &Terms, table: &mut Lent, call: &Call) -> Out {
         let (ids, tats) = (table.ids.inside_mut(), table.columns[0].inside_mut());
+        let newest = &mut table.newest[0];
         answered(|out| match *call {
             Call::Acquire {
                 moment,
                 subscriber,
                 cost,
-            } => numbers::gcra_acquire(terms, ids, tats, moment, subscriber, cost, out),
+            } => numbers::gcra_acquire(terms, ids, tats, newest, moment, subscriber, cost, out),
             Call::Peek { moment, subscriber } => {
-                numbers::gcra_peek(terms, ids, tats, moment, subscriber, out)
+                numbers::gcra_peek(terms, ids, tats, newest, moment, subscriber, out)
             }
-            Call::Clear => numbers::gcra_clear(ids, tats, out),
+            Call::Clear => numbers::gcra_clear(ids, tats, newest, out),
         })
     }
 
@@ -70,18 +71,19 @@ impl Engine for Bucket {
         let ids = table.ids.inside_mut();
         let (levels, lasts) = table.columns.split_at_mut(1);
         let (levels, lasts) = (levels[0].inside_mut(), lasts[0].inside_mut());
+        let newest = &mut table.newest[0];
         answered(|out| match *call {
             Call::Acquire {
                 moment,
                 subscriber,
                 cost,
             } => numbers::token_bucket_acquire(
-                terms, ids, levels, lasts, moment, subscriber, cost, out,
+                terms, ids, levels, lasts, newest, moment, subscriber, cost, out,
             ),
-            Call::Peek { moment, subscriber } => {
-                numbers::token_bucket_peek(terms, ids, levels, lasts, moment, subscriber, out)
-            }
-            Call::Clear => numbers::token_bucket_clear(ids, levels, lasts, out),
+            Call::Peek { moment, subscriber } => numbers::token_bucket_peek(
+                terms, ids, levels, lasts, newest, moment, subscriber, out,
+            ),
+            Call::Clear => numbers::token_bucket_clear(ids, levels, lasts, newest, out),
         })
     }
 

@@ -19,20 +19,22 @@ const BAD_PLAN: usize = 0;
 const ADMITTED: usize = 1;
 const THROTTLED: usize = 2;
 const REFUSED: usize = 3;
-const WAITED: usize = 4;
-const RENEWED: usize = 5;
-const KINDS: [&str; 6] = [
+const EARLY: usize = 4;
+const WAITED: usize = 5;
+const RENEWED: usize = 6;
+const KINDS: [&str; 7] = [
     "bad plan",
     "admitted",
     "throttled",
     "refused",
+    "early",
     "waited",
     "renewed",
 ];
 
 /// How many answers of each kind were compared, how many clients waited as long as they were told, and how many came for their
 /// whole burst at the reset that they were told.
-pub type Fields = Counts<6>;
+pub type Fields = Counts<7>;
 
 struct Trial {
     rng: Rng,
@@ -73,13 +75,17 @@ impl Trial {
         self.fields(&terms, moment, &answer).map(|_| ())
     }
 
-    /// Somebody spends the whole burst, and a client asks some time later. Then it comes again when it is told to, or for its
-    /// whole burst after the reset.
+    /// Somebody spends the whole burst, and a client asks some time later, or now and then earlier. Then it comes again when
+    /// it is told to, or for its whole burst after the reset.
     fn client<E: Engine>(&mut self) -> Result<(), Difference> {
         let rng = &mut self.rng;
         let terms = choose::terms(rng);
         let begin = choose::moment(rng);
-        let moment = begin.saturating_add(rng.of_any_size(1 << 32));
+        let apart = rng.of_any_size(1 << 32);
+        let moment = match rng.once_in(8) {
+            true => begin.saturating_sub(apart),
+            false => begin.saturating_add(apart),
+        };
         let spender = rng.pick(&[1, 1, 1, 2]);
         let (subscriber, cost) = (choose::subscriber(rng), choose::cost(rng, terms.burst));
         let mut pair = Pair::new(terms, Table::<E>::cleared(1), None);
@@ -137,6 +143,7 @@ impl Trial {
             _ if !plan.within_limits() => BAD_PLAN,
             0 => ADMITTED,
             8 => THROTTLED,
+            11 => EARLY,
             _ => REFUSED,
         };
         self.counts.count(kind, true);

@@ -1,9 +1,10 @@
-//! One list of calls through both engines, each with a table of its own, and through the book where the moments never
-//! fall between two clears, which is the premise of document 01's 'The run'. There the three answers must be equal.
+//! One list of calls through both engines, each with a table of its own, and through the book: document 01's 'The run'. The
+//! three answers must be equal, whether the moments rise or fall (document 02, Item 6).
 
 use crate::call::{plan_of, Call, Terms};
 use crate::compare::{circumstances, Difference, Pair};
 use crate::engine::Engine;
+use crate::spoil::{self, Spoil};
 use crate::trial::Trial;
 use model::book::Book;
 use model::decision::{Bucket, Paced};
@@ -16,37 +17,47 @@ pub struct Joint {
     terms: Terms,
     gcra: Pair<Paced>,
     token_bucket: Pair<Bucket>,
-    book: Option<Book>,
+    book: Book,
 }
 
 impl Joint {
     /// Tables with anything in them, for the clear that a run begins with.
-    pub fn new(trial: &mut Trial, terms: Terms, slots: usize, falls: bool) -> Joint {
+    pub fn new(trial: &mut Trial, terms: Terms, slots: usize) -> Joint {
         let (gcra, token_bucket) = (leftovers(trial, slots), leftovers(trial, slots));
+        let mut book = Book::new(plan_of(&terms), slots);
+        if trial.spoil.is_some_and(Spoil::narrows_the_book) {
+            book.narrow();
+        }
         Joint {
             terms,
             gcra: Pair::new(terms, gcra, trial.spoil),
             token_bucket: Pair::new(terms, token_bucket, trial.spoil),
-            book: (!falls).then(|| Book::new(plan_of(&terms), slots)),
+            book,
         }
     }
 
-    /// The answers of GCRA and the token bucket. Archive and model agree on each of them.
-    pub fn call(&mut self, trial: &mut Trial, call: &Call) -> Result<[Answer; 2], Difference> {
+    /// The answer of GCRA, the token bucket and the book. Archive and model agree on each engine's.
+    pub fn call(&mut self, trial: &mut Trial, call: &Call) -> Result<Answer, Difference> {
         let engines = [self.gcra.call(call)?, self.token_bucket.call(call)?];
-        if let Some(book) = &mut self.book {
-            let history = match trial.spoil {
-                Some(spoil) if spoil.keeps_from_the_book(call) => engines[0],
-                Some(spoil) if spoil.shortens_the_book() => ask_and_forget(book, call),
-                _ => ask(book, call),
-            };
-            if engines != [history; 2] {
-                return Err(self.difference(call, engines, history));
-            }
+        let history = match trial.spoil {
+            Some(spoil) if spoil.keeps_from_the_book(call) => engines[0],
+            Some(spoil) if spoil.shortens_the_book() => ask_and_forget(&mut self.book, call),
+            spoil => self.ask_book(call, spoil),
+        };
+        if engines != [history; 2] {
+            return Err(self.difference(call, engines, history));
         }
-        trial.count(&self.gcra, call, &engines[0]);
-        trial.count(&self.token_bucket, call, &engines[1]);
-        Ok(engines)
+        trial.count(&self.gcra, call, &history);
+        trial.count(&self.token_bucket, call, &history);
+        Ok(history)
+    }
+
+    fn ask_book(&mut self, call: &Call, spoil: Option<Spoil>) -> Answer {
+        let mut answer = ask(&mut self.book, call);
+        if let Some(fault) = spoil.and_then(Spoil::of_all) {
+            spoil::model_answer(fault, call, &mut answer);
+        }
+        answer
     }
 
     fn difference(&self, call: &Call, engines: [Answer; 2], book: Answer) -> Difference {
@@ -89,5 +100,5 @@ fn leftovers<E: Engine>(trial: &mut Trial, slots: usize) -> Table<E> {
     let ids = (0..slots).map(|_| trial.rng.next() as u32).collect();
     let column = |_| (0..slots).map(|_| trial.rng.next()).collect();
     let columns = E::COLUMNS.iter().map(column).collect();
-    Table::new(ids, columns)
+    Table::new(ids, columns, trial.rng.next())
 }

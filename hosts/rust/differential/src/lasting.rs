@@ -27,12 +27,12 @@ pub fn run(trial: &mut Trial) -> Result<Remembered, Difference> {
 fn one(trial: &mut Trial, counts: &mut Remembered) -> Result<(), Difference> {
     let mut course = Course::new(&mut trial.rng);
     let slots = course.resets.len();
-    let mut joint = Joint::new(trial, course.terms, slots, false);
+    let mut joint = Joint::new(trial, course.terms, slots);
     let mut forgetful = Book::new(plan_of(&course.terms), slots);
     joint.call(trial, &Call::Clear)?;
     for _ in 0..slots as u64 * trial.rng.from(300, 900) {
         let call = course.next(&mut trial.rng);
-        let [answer, _] = joint.call(trial, &call)?;
+        let answer = joint.call(trial, &call)?;
         course.hear(&call, &answer);
         let wrong = ask_and_forget(&mut forgetful, &call) != answer;
         if matches!(answer[0], 0 | 8) {
@@ -76,7 +76,7 @@ impl Course {
         self.resets.len() as u32 + 1
     }
 
-    /// The next call, at a moment when every holder still owes something.
+    /// The next call, at a moment when every holder still owes something; now and then one before what the clock shows.
     fn next(&mut self, rng: &mut Rng) -> Call {
         let burst = self.terms.burst;
         if let Some(new) = self.resets.iter().position(|&reset| reset == 0) {
@@ -88,14 +88,18 @@ impl Course {
         self.moment = latest.min(self.moment + step);
         let holder = rng.from(1, self.resets.len() as u64) as u32;
         let cost = rng.from(1, burst as u64 / 500) as u32;
+        let moment = match rng.below(16) {
+            0 => self.moment.saturating_sub(rng.of_any_size(LAST)),
+            _ => self.moment,
+        };
         match rng.below(16) {
             0 => Call::Peek {
-                moment: self.moment,
+                moment,
                 subscriber: holder,
             },
-            1 => ask(self.moment, self.stranger(), cost),
-            2 => ask(self.moment, holder, burst),
-            _ => ask(self.moment, holder, cost),
+            1 => ask(moment, self.stranger(), cost),
+            2 => ask(moment, holder, burst),
+            _ => ask(moment, holder, cost),
         }
     }
 

@@ -1,5 +1,5 @@
-//! What a host lends to the archive: columns of any lengths and five numbers for the answer, each between guards that nobody
-//! may write.
+//! What a host lends to the archive: columns of any lengths, the newest moment and five numbers for the answer, each between
+//! guards that nobody may write.
 
 use model::table::{Stored, Table};
 use std::ops::{Deref, DerefMut};
@@ -62,28 +62,33 @@ impl<T: Copy + PartialEq> DerefMut for Guarded<T> {
     }
 }
 
-/// The ids, and the columns of the record in the order of `Stored::COLUMNS`.
+/// The ids, the columns of the record in the order of `Stored::COLUMNS`, and the newest moment, which is one number.
 #[derive(Clone)]
 pub struct Lent {
     pub ids: Guarded<u32>,
     pub columns: Vec<Guarded<u64>>,
+    pub newest: Guarded<u64>,
 }
 
 impl Lent {
     pub fn new<R: Stored>(table: &Table<R>) -> Lent {
-        let column = |c: &Vec<u64>| Guarded::new(c, 0xa5a5_a5a5_a5a5_a5a5);
+        let guarded = |column: &[u64]| Guarded::new(column, 0xa5a5_a5a5_a5a5_a5a5);
+        let columns = table.columns.iter();
         Lent {
             ids: Guarded::new(&table.ids, 0xa5a5_a5a5),
-            columns: table.columns.iter().map(column).collect(),
+            columns: columns.map(|column| guarded(column)).collect(),
+            newest: guarded(&[table.newest]),
         }
     }
 
     pub fn intact(&self) -> bool {
-        self.ids.intact() && self.columns.iter().all(Guarded::intact)
+        self.ids.intact() && self.columns.iter().all(Guarded::intact) && self.newest.intact()
     }
 
     pub fn holds<R: Stored>(&self, table: &Table<R>) -> bool {
         let mut pairs = self.columns.iter().zip(&table.columns);
-        self.ids.inside() == table.ids && pairs.all(|(ours, theirs)| ours.inside() == theirs)
+        self.ids.inside() == table.ids
+            && pairs.all(|(ours, theirs)| ours.inside() == theirs)
+            && self.newest.inside() == [table.newest]
     }
 }

@@ -1,6 +1,7 @@
-//! Compares the proved archive, through its C interface, with the second implementation: after every call the answer and
-//! every column, on any table and on tables of the most slots and of one more; over a run both engines with the book, also where
-//! it must remember long; what a reset is worth; and the fields for HTTP. `options::USAGE` says how to run it.
+//! Compares the proved archive, through its C interface, with the second implementation: after every call the answer, every
+//! column and the newest moment, on any table and on tables of the most slots and of one more; over a run both engines with
+//! the book, also where the clock falls and where it must remember long; what a reset is worth; and the fields for HTTP.
+//! `options::USAGE` says how to run it.
 
 mod call;
 mod choose;
@@ -50,8 +51,8 @@ fn compare_all(options: &Options) -> Result<Compared, Difference> {
         (&SINGLE, part(55), single::any),
         (&MOST, limit, single::most),
         (&BEYOND, limit / 2, single::beyond),
-        (&RISING, part(25), runs::rising),
-        (&FALLING, part(10), runs::falling),
+        (&RISING, part(10), runs::rising),
+        (&FALLING, part(25), runs::falling),
         (&BETWEEN, part(5), runs::between),
         (&WIDE, part(3), runs::wide),
         (&STEADY, 3001, steady::run),
@@ -103,6 +104,16 @@ fn run(options: &Options) -> Result<(), u8> {
     say(&compared.lasting.line())?;
     say(&compared.resets.line())?;
     say(&compared.fields.line())?;
+    let impossible = compared.tallies.iter().flat_map(Tally::impossible);
+    let impossible: Vec<String> = impossible.collect();
+    if !impossible.is_empty() {
+        eprintln!(
+            "These cannot occur there by the rules, and did: {}. The same again: {}",
+            impossible.join(", "),
+            options.again()
+        );
+        return Err(1);
+    }
     let missing = compared.tallies.iter().flat_map(Tally::missing);
     let missing = missing.chain(compared.lasting.missing());
     let missing = missing.chain(compared.resets.missing());

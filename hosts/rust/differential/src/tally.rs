@@ -1,78 +1,102 @@
-//! How often each number was answered and a slot taken over, by kind of run, engine and call; and which must have been.
+//! How often each number was answered, a slot taken over and a fallen moment taken, by kind of run, engine and call; and which
+//! must have been and which not.
 
 use crate::call::Call;
 
-/// A kind of run, and what its acquires, peeks and clears must reach: numbers, and the place after them for an admission
-/// that takes over the slot of another who owes nothing any more.
+/// A kind of run, and what its acquires, peeks and clears must reach and none of its calls may.
 pub struct Kind {
     pub name: &'static str,
     pub reach: [&'static [usize]; 3],
+    pub never: &'static [usize],
 }
 
-const TAKEOVER: usize = 10;
-const NAMES: [&str; 11] = ["0", "1", "2", "3", "4", "5", "6", "7", "8", "9", "takeover"];
+/// The places of what is counted: the numbers; an admission that takes over the slot of another who owes nothing any more; and
+/// a call that gets 0, 8 or 9 at an earlier moment than another before it.
+const NUMBERS: [u128; 11] = [0, 1, 2, 3, 4, 5, 6, 7, 8, 9, 11];
+const EARLY: usize = 10;
+const TAKEOVER: usize = 11;
+const FALLEN: usize = 12;
+const PLACES: usize = 13;
+const NAMES: [&str; PLACES] = [
+    "0", "1", "2", "3", "4", "5", "6", "7", "8", "9", "11", "takeover", "fallen",
+];
 
 /// Single calls on damaged tables reach everything.
 pub const SINGLE: Kind = Kind {
     name: "single",
     reach: [
-        &[0, 1, 2, 3, 4, 5, 6, 7, 8, 9, TAKEOVER],
-        &[0, 1, 2, 3, 4, 7],
+        &[0, 1, 2, 3, 4, 5, 6, 7, 8, 9, EARLY, TAKEOVER],
+        &[0, 1, 2, 3, 4, 7, EARLY],
         &[0, 2],
     ],
+    never: &[],
 };
 
 /// Single calls on damaged tables of exactly as many slots as a table may have reach every number that depends on the table.
 pub const MOST: Kind = Kind {
     name: "most",
-    reach: [&[0, 2, 7, 8, 9, TAKEOVER], &[0, 2, 7], &[0]],
+    reach: [&[0, 2, 7, 8, 9, EARLY, TAKEOVER], &[0, 2, 7, EARLY], &[0]],
+    never: &[],
 };
 
 /// .. and of one slot more nothing but 2, or 1 before it.
 pub const BEYOND: Kind = Kind {
     name: "beyond",
     reach: [&[1, 2], &[2], &[2]],
+    never: &[0, 3, 4, 5, 6, 7, 8, 9, EARLY],
 };
 
-/// A run starts with a cleared table, so 2 cannot occur; and no record is impossible while the clock rises.
+/// A run starts with a cleared table, so neither 2 nor 7 can occur: nothing else than an admission writes in a slot, and
+/// whatever is below the newest one gets 11 before.
+const FROM_A_CLEAR: &[usize] = &[2, 7];
+
+/// .. nor 11 while the clock rises.
+const NEVER_FALLING: &[usize] = &[2, 7, EARLY, FALLEN];
+
 pub const RISING: Kind = Kind {
     name: "rising",
-    reach: [&[0, 1, 3, 4, 5, 6, 8, 9, TAKEOVER], &[0, 1, 3, 4], &[0]],
+    reach: [&[0, 3, 4, 5, 6, 8, 9, TAKEOVER], &[0, 3, 4], &[0]],
+    never: NEVER_FALLING,
 };
 
 pub const FALLING: Kind = Kind {
     name: "falling",
     reach: [
-        &[0, 1, 3, 4, 5, 6, 7, 8, 9, TAKEOVER],
-        &[0, 1, 3, 4, 7],
+        &[0, 1, 3, 4, 5, 6, 8, 9, EARLY, TAKEOVER, FALLEN],
+        &[0, 1, 3, 4, EARLY, FALLEN],
         &[0],
     ],
+    never: FROM_A_CLEAR,
 };
 
 /// Tables of 41 to 4,096 slots.
 pub const BETWEEN: Kind = Kind {
     name: "between",
     reach: CROWDED,
+    never: FROM_A_CLEAR,
 };
 
 /// Tables of the most slots by default, which are all filled, so that a 9 here is one where each of them is taken.
 pub const WIDE: Kind = Kind {
     name: "wide",
     reach: CROWDED,
+    never: FROM_A_CLEAR,
 };
 
-const CROWDED: [&[usize]; 3] = [&[0, 8, 9, TAKEOVER], &[0], &[0]];
+const CROWDED: [&[usize]; 3] = [&[0, 8, 9, EARLY, TAKEOVER], &[0, EARLY], &[0]];
 
 /// Runs on one or two slots, whose holders owe throughout.
 pub const LASTING: Kind = Kind {
     name: "lasting",
-    reach: [&[0, 8, 9], &[0], &[0]],
+    reach: [&[0, 8, 9, EARLY], &[0, EARLY], &[0]],
+    never: FROM_A_CLEAR,
 };
 
 /// Document 001's case.
 pub const STEADY: Kind = Kind {
     name: "steady",
     reach: [&[0, 8], &[], &[0]],
+    never: NEVER_FALLING,
 };
 
 const CALLS: [&str; 3] = ["acquire", "peek", "clear"];
@@ -81,7 +105,7 @@ const CALLS: [&str; 3] = ["acquire", "peek", "clear"];
 pub struct Tally {
     kind: &'static Kind,
     engine: &'static str,
-    counts: [[u64; 11]; 3],
+    counts: [[u64; PLACES]; 3],
     /// The most slots of a table.
     slots: [usize; 3],
 }
@@ -91,20 +115,23 @@ impl Tally {
         Tally {
             kind,
             engine,
-            counts: [[0; 11]; 3],
+            counts: [[0; PLACES]; 3],
             slots: [0; 3],
         }
     }
 
-    /// Counts an answer that was compared, so its number is one of document 01's.
-    pub fn count(&mut self, call: &Call, number: u128, took_over: bool, slots: usize) {
+    /// Counts an answer that was compared, so its number is one of the documents'.
+    pub fn count(&mut self, call: &Call, number: u128, took_over: bool, fell: bool, slots: usize) {
         let row = match call {
             Call::Acquire { .. } => 0,
             Call::Peek { .. } => 1,
             Call::Clear => 2,
         };
-        self.counts[row][number as usize] += 1;
-        self.counts[row][TAKEOVER] += u64::from(took_over);
+        let place = NUMBERS.iter().position(|&known| known == number);
+        let counts = &mut self.counts[row];
+        counts[place.expect("a number of the documents")] += 1;
+        counts[TAKEOVER] += u64::from(took_over);
+        counts[FALLEN] += u64::from(fell && matches!(number, 0 | 8 | 9));
         self.slots[row] = self.slots[row].max(slots);
     }
 
@@ -133,15 +160,23 @@ impl Tally {
 
     /// What should have occurred and did not, in words.
     pub fn missing(&self) -> Vec<String> {
-        let mut missing = Vec::new();
-        for ((call, counts), reach) in CALLS.iter().zip(&self.counts).zip(self.kind.reach) {
-            for &place in reach {
-                if counts[place] == 0 {
-                    let (kind, engine) = (self.kind.name, self.engine);
-                    missing.push(format!("{kind} {engine} {call} {}", NAMES[place]));
-                }
+        self.found(self.kind.reach, |count| count == 0)
+    }
+
+    /// What cannot have occurred and did, in words.
+    pub fn impossible(&self) -> Vec<String> {
+        self.found([self.kind.never; 3], |count| count > 0)
+    }
+
+    /// Those of each call's places of which the count is so.
+    fn found(&self, places: [&[usize]; 3], so: fn(u64) -> bool) -> Vec<String> {
+        let mut found = Vec::new();
+        for ((call, counts), places) in CALLS.iter().zip(&self.counts).zip(places) {
+            for &place in places.iter().filter(|&&place| so(counts[place])) {
+                let (kind, engine) = (self.kind.name, self.engine);
+                found.push(format!("{kind} {engine} {call} {}", NAMES[place]));
             }
         }
-        missing
+        found
     }
 }

@@ -44,7 +44,8 @@ impl Trial {
     pub fn count<E: Engine>(&mut self, pair: &Pair<E>, call: &Call, answer: &Answer) {
         let admitted = matches!(call, Call::Acquire { .. }) && answer[0] == 0;
         let took_over = admitted && pair.took_over(call.subscriber());
-        self.tallies[E::PLACE].count(call, answer[0], took_over, pair.slots());
+        let tally = &mut self.tallies[E::PLACE];
+        tally.count(call, answer[0], took_over, pair.fell(), pair.slots());
         self.done += 1;
         if self.done.is_multiple_of(4096) && self.spoken.elapsed() > EVERY {
             eprintln!(

@@ -7,7 +7,7 @@ fn main() {
         match table.acquire(&plan, 1000, 7, 1).outcome {
             Outcome::Admitted { left, .. } => println!("admitted, {left} left"),
             Outcome::Throttled { wait, .. } => println!("try again in {wait} ms"),
-            Outcome::Refused(reason) => println!("refused: {reason}"),
+            refused => println!("{refused}"),
         }
     }
 }

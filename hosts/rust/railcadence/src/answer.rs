@@ -1,12 +1,13 @@
-//! What a call answers.
+//! What an acquire answers.
 
-use std::error::Error;
-use std::fmt::{Display, Formatter, Result};
+use crate::reason::Reason;
+use crate::report::Balance;
+use std::fmt::{Display, Formatter};
 
 const ADMITTED: u64 = 0;
 const THROTTLED: u64 = 8;
 
-/// The answer to an acquire or a peek.
+/// The answer to an acquire.
 ///
 /// ```
 /// use railcadence::{Gcra, Plan};
@@ -25,10 +26,21 @@ pub struct Answer {
     pub outcome: Outcome,
 }
 
-/// What came of an acquire or a peek.
+/// What came of an acquire. Further rules will bring further outcomes, so a `match` needs an arm for the rest:
+///
+/// ```compile_fail,E0004
+/// fn name(outcome: railcadence::Outcome) -> &'static str {
+///     match outcome {
+///         railcadence::Outcome::Admitted { .. } => "admitted",
+///         railcadence::Outcome::Throttled { .. } => "throttled",
+///         railcadence::Outcome::Refused(_) => "refused",
+///     }
+/// }
+/// ```
 #[derive(Clone, Copy, Debug, PartialEq, Eq, Hash)]
+#[non_exhaustive]
 pub enum Outcome {
-    /// The cost is spent. Of a peek: the report, and nothing is spent.
+    /// The cost is spent.
     Admitted {
         /// Whole units left after the call.
         left: u64,
@@ -47,40 +59,8 @@ pub enum Outcome {
         /// meanwhile and that moment is within its limit.
         wait: u64,
     },
-    /// Never like this, and why. Nothing is spent.
+    /// No, and why. Nothing is spent.
     Refused(Reason),
-}
-
-/// Why a request is refused. The first that applies, in this order, is given.
-///
-/// As text, a reason says what is wrong and what to do.
-///
-/// ```
-/// use railcadence::Reason;
-///
-/// assert_eq!(Reason::NoSubscriber.number(), 4);
-/// assert_eq!(Reason::NoSubscriber.to_string(), "subscriber 0 is nobody: number subscribers from 1");
-/// ```
-#[derive(Clone, Copy, Debug, PartialEq, Eq, Hash)]
-pub enum Reason {
-    /// Limit, period or burst is outside its limits.
-    BadPlan,
-    /// The columns are of different lengths, or there are not 1 to 65,535 slots.
-    BadTable,
-    /// The moment is above 2^42 − 1 milliseconds.
-    LateMoment,
-    /// The subscriber is 0.
-    NoSubscriber,
-    /// The cost is 0.
-    ZeroCost,
-    /// The cost is above the burst, and can never be admitted.
-    CostAboveBurst,
-    /// The subscriber's own slot holds what no admission up to this moment can have left.
-    CorruptRecord,
-    /// The subscriber has no slot, and none is free.
-    TableFull,
-    /// A number that this wrapper does not know, as an archive with further rules may give.
-    Unknown(u64),
 }
 
 impl Answer {
@@ -102,8 +82,8 @@ impl Answer {
     /// ```
     /// use railcadence::{Gcra, Plan};
     ///
-    /// let answer = Gcra::with_slots(1).peek(&Plan::new(3, 1000, 2), 1000, 7);
-    /// assert_eq!(answer.to_numbers(), [0, 7, 2, 1000, 0]);
+    /// let answer = Gcra::with_slots(1).acquire(&Plan::new(3, 1000, 2), 1000, 7, 1);
+    /// assert_eq!(answer.to_numbers(), [0, 7, 1, 1334, 0]);
     /// ```
     pub fn to_numbers(&self) -> [u64; 5] {
         let [left, reset, wait] = match self.outcome {
@@ -115,7 +95,7 @@ impl Answer {
         [self.outcome.number(), subscriber, left, reset, wait]
     }
 
-    /// Whether the cost was spent; of a peek, whether there is a report.
+    /// Whether the cost was spent.
     pub fn is_admitted(&self) -> bool {
         matches!(self.outcome, Outcome::Admitted { .. })
     }
@@ -130,88 +110,39 @@ impl Outcome {
             Outcome::Refused(reason) => reason.number(),
         }
     }
-}
 
-impl Reason {
-    pub(crate) fn from_number(number: u64) -> Reason {
-        match number {
-            1 => Reason::BadPlan,
-            2 => Reason::BadTable,
-            3 => Reason::LateMoment,
-            4 => Reason::NoSubscriber,
-            5 => Reason::ZeroCost,
-            6 => Reason::CostAboveBurst,
-            7 => Reason::CorruptRecord,
-            9 => Reason::TableFull,
-            _ => Reason::Unknown(number),
-        }
-    }
-
-    /// The reason's number.
-    pub fn number(&self) -> u64 {
+    /// Whether the same request may simply be made again later: throttled, after the wait, or the table was full.
+    ///
+    /// ```
+    /// use railcadence::{Gcra, Plan};
+    ///
+    /// let plan = Plan::new(3, 1000, 2);
+    /// let mut table = Gcra::with_slots(1);
+    /// table.acquire(&plan, 1000, 7, 2);
+    /// assert!(table.acquire(&plan, 1000, 7, 1).outcome.may_retry()); // 334 ms to wait
+    /// assert!(table.acquire(&plan, 1000, 8, 1).outcome.may_retry()); // the only slot is taken
+    /// assert!(!table.acquire(&plan, 1000, 7, 3).outcome.may_retry()); // more than the burst
+    /// ```
+    pub fn may_retry(&self) -> bool {
         match self {
-            Reason::BadPlan => 1,
-            Reason::BadTable => 2,
-            Reason::LateMoment => 3,
-            Reason::NoSubscriber => 4,
-            Reason::ZeroCost => 5,
-            Reason::CostAboveBurst => 6,
-            Reason::CorruptRecord => 7,
-            Reason::TableFull => 9,
-            Reason::Unknown(number) => *number,
+            Outcome::Admitted { .. } => false,
+            Outcome::Throttled { .. } => true,
+            Outcome::Refused(reason) => reason.may_retry(),
         }
     }
 }
 
 impl Display for Outcome {
-    fn fmt(&self, f: &mut Formatter) -> Result {
-        match self {
+    fn fmt(&self, f: &mut Formatter) -> std::fmt::Result {
+        match *self {
             Outcome::Admitted { left, reset } => {
-                write!(
-                    f,
-                    "admitted: {left} left, nothing owed from moment {reset} on"
-                )
+                write!(f, "admitted: {}", Balance { left, reset })
             }
             Outcome::Throttled { wait, .. } => write!(f, "throttled: try again in {wait} ms"),
             Outcome::Refused(reason) => write!(f, "refused: {reason}"),
         }
     }
 }
-
-impl Display for Reason {
-    fn fmt(&self, f: &mut Formatter) -> Result {
-        let words = match self {
-            Reason::BadPlan => {
-                "the plan is outside its limits: take a limit of 1 to 1000000 units, a period of 1 to 2678400000 ms \
-                 and a burst of 1 to 1000000 units"
-            }
-            Reason::BadTable => {
-                "the columns differ in length, or there are not 1 to 65535 slots: make the table anew"
-            }
-            Reason::LateMoment => {
-                "the moment is above 4398046511103: pass milliseconds, and count them from a later zero"
-            }
-            Reason::NoSubscriber => "subscriber 0 is nobody: number subscribers from 1",
-            Reason::ZeroCost => "the cost is 0: ask for 1 unit or more, or peek",
-            Reason::CostAboveBurst => {
-                "the cost is above the burst and never admitted: ask for less at once, or raise the burst"
-            }
-            Reason::CorruptRecord => {
-                "no admission up to this moment can have left the subscriber's record: set the clock right if it went \
-                 back; if the plan is another one or the columns are damaged, clear the table"
-            }
-            Reason::TableFull => {
-                "no slot is the subscriber's own and none is free: try again later, or make the table larger"
-            }
-            Reason::Unknown(number) => {
-                return write!(f, "this wrapper does not know number {number}: take the one that goes with the archive");
-            }
-        };
-        f.write_str(words)
-    }
-}
-
-impl Error for Reason {}
 
 /// What a call writes.
 pub(crate) fn written(call: impl FnOnce(&mut [u64; 5])) -> [u64; 5] {
@@ -221,7 +152,7 @@ pub(crate) fn written(call: impl FnOnce(&mut [u64; 5])) -> [u64; 5] {
 }
 
 /// The answer of a clear, of which the first number says all.
-pub(crate) fn cleared([number, ..]: [u64; 5]) -> std::result::Result<(), Reason> {
+pub(crate) fn cleared([number, ..]: [u64; 5]) -> Result<(), Reason> {
     match number {
         0 => Ok(()),
         _ => Err(Reason::from_number(number)),
@@ -244,8 +175,19 @@ mod tests {
     }
 
     #[test]
-    fn a_number_of_further_rules_is_no_panic() {
-        assert_eq!(Reason::from_number(13), Reason::Unknown(13));
+    fn only_8_and_9_may_be_tried_again() {
+        let may_retry = |number| {
+            let outcome = Answer::from_numbers([number, 7, 0, 0, 1]).outcome;
+            outcome.may_retry()
+        };
+        let numbers = (0..20).chain([u64::MAX]);
+        assert!(numbers.filter(|number| may_retry(*number)).eq([8, 9]));
+    }
+
+    #[test]
+    fn a_clear_is_done_or_refused() {
+        assert_eq!(cleared([0; 5]), Ok(()));
+        assert_eq!(cleared([2, 0, 0, 0, 0]), Err(Reason::BadTable));
         assert_eq!(cleared([13, 0, 0, 0, 0]), Err(Reason::Unknown(13)));
     }
 }

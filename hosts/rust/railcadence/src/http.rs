@@ -3,6 +3,7 @@
 use crate::answer::{written, Answer};
 use crate::numbers;
 use crate::plan::Plan;
+use crate::report::Report;
 
 /// The RateLimit fields and Retry-After. Times are whole seconds, rounded up.
 ///
@@ -23,8 +24,22 @@ pub struct HttpFields {
     pub retry_after: u64,
 }
 
+impl HttpFields {
+    fn of(plan: &Plan, moment: u64, answer: [u64; 5]) -> HttpFields {
+        let [quota, window, remaining, reset, retry_after] =
+            written(|out| numbers::http_fields(plan, moment, &answer, out));
+        HttpFields {
+            quota,
+            window,
+            remaining,
+            reset,
+            retry_after,
+        }
+    }
+}
+
 impl Answer {
-    /// What to tell a client of this answer, which an acquire or a peek under the plan gave at the moment.
+    /// What to tell a client of this answer, which an acquire under the plan gave at the moment.
     ///
     /// ```
     /// use railcadence::{Gcra, HttpFields, Plan};
@@ -36,15 +51,23 @@ impl Answer {
     /// assert_eq!(told, HttpFields { quota: 12, window: 720, remaining: 0, reset: 720, retry_after: 60 });
     /// ```
     pub fn http_fields(&self, plan: &Plan, moment: u64) -> HttpFields {
-        let answer = self.to_numbers();
-        let [quota, window, remaining, reset, retry_after] =
-            written(|out| numbers::http_fields(plan, moment, &answer, out));
-        HttpFields {
-            quota,
-            window,
-            remaining,
-            reset,
-            retry_after,
-        }
+        HttpFields::of(plan, moment, self.to_numbers())
+    }
+}
+
+impl Report {
+    /// What to tell a client of this report, which a peek under the plan gave at the moment.
+    ///
+    /// ```
+    /// use railcadence::{Gcra, HttpFields, Plan};
+    ///
+    /// let plan = Plan::new(60, 3_600_000, 12);
+    /// let mut table = Gcra::with_slots(300);
+    /// table.acquire(&plan, 0, 7, 2);
+    /// let told = table.peek(&plan, 500, 7).http_fields(&plan, 500); // 119,500 ms to the reset
+    /// assert_eq!(told, HttpFields { quota: 12, window: 720, remaining: 10, reset: 120, retry_after: 0 });
+    /// ```
+    pub fn http_fields(&self, plan: &Plan, moment: u64) -> HttpFields {
+        HttpFields::of(plan, moment, self.to_numbers())
     }
 }

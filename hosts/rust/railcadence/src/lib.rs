@@ -18,26 +18,36 @@
 //!
 //! # Which engine
 //!
-//! [`Gcra`] stores one number a subscriber, [`TokenBucket`] two. As long as moments never fall from one clear to the next,
-//! both give the same answers. If unsure, take `Gcra`.
+//! [`Gcra`] stores one number a subscriber, [`TokenBucket`] two. On cleared tables with equally many slots, the same calls
+//! under one plan get the same answers from both. If unsure, take `Gcra`.
 //!
 //! # Moments
 //!
-//! Nothing here reads a clock: a moment is a number of milliseconds from any fixed zero, up to 2^42 − 1. A clock that
-//! never goes back, such as [`std::time::Instant`], suits best.
+//! Nothing here reads a clock: a moment is a number of milliseconds from any fixed zero, up to 2^42 − 1. Take all moments of a
+//! table from one clock: one before the newest at which the table admitted anything is refused with
+//! [`Reason::EarlyMoment`]. A clock that never goes back, such as [`std::time::Instant`], suits best.
 //!
 //! # Any values may be passed
 //!
-//! No call panics. Whatever is outside its limits gets a [`Reason`], and then no column is written.
+//! No call panics. Whatever is outside its limits gets a [`Reason`], and then nothing of the table is written. Further rules
+//! will bring further reasons and outcomes, so a `match` on either needs an arm for the rest.
 //!
 //! # Threads
 //!
-//! A table serves one caller at a time, which `&mut self` sees to: share it in a [`std::sync::Mutex`].
+//! A table serves one caller at a time, which `&mut self` sees to: share it in a [`std::sync::Mutex`]. Read the clock while
+//! you hold it, since a moment that was read before may be earlier than another thread's admission meanwhile.
 //!
 //! ```
-//! fn sent<T: Send>() {}
-//! sent::<railcadence::Gcra>();
-//! sent::<railcadence::TokenBucket>();
+//! use railcadence::{Gcra, Plan};
+//! use std::sync::Mutex;
+//! use std::time::Instant;
+//!
+//! let (plan, start) = (Plan::new(3, 1000, 2), Instant::now());
+//! let shared = Mutex::new(Gcra::with_slots(300));
+//!
+//! let mut table = shared.lock().unwrap(); // first the table,
+//! let moment = start.elapsed().as_millis() as u64; // then the clock
+//! assert!(table.acquire(&plan, moment, 7, 1).is_admitted());
 //! ```
 //!
 //! # Linking
@@ -52,11 +62,15 @@ pub mod gcra;
 mod http;
 pub mod numbers;
 mod plan;
+mod reason;
+mod report;
 pub mod sys;
 pub mod token_bucket;
 
-pub use answer::{Answer, Outcome, Reason};
+pub use answer::{Answer, Outcome};
 pub use gcra::Gcra;
 pub use http::HttpFields;
 pub use plan::Plan;
+pub use reason::Reason;
+pub use report::{Balance, Report};
 pub use token_bucket::TokenBucket;

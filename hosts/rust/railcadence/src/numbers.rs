@@ -4,16 +4,19 @@
 //! ```
 //! use railcadence::{numbers, Plan};
 //!
-//! let (mut ids, mut tats, mut out) = ([0; 300], [0; 300], [0; 5]);
-//! numbers::gcra_acquire(&Plan::new(3, 1000, 2), &mut ids, &mut tats, 1000, 7, 1, &mut out);
+//! let (mut ids, mut tats, mut newest, mut out) = ([0; 300], [0; 300], 0, [0; 5]);
+//! numbers::gcra_acquire(&Plan::new(3, 1000, 2), &mut ids, &mut tats, &mut newest, 1000, 7, 1, &mut out);
 //! assert_eq!(out, [0, 7, 1, 1334, 0]);
+//! assert_eq!(newest, 1000);
 //! ```
+
+#![allow(clippy::too_many_arguments)]
 
 use crate::plan::Plan;
 use crate::sys;
 
-// SAFETY of the calls below: each pointer goes with the length of its own slice or array, what is written is distinct from all
-// else, and a column that is only read is lent as a constant.
+// SAFETY of the calls below: each pointer goes with the length of its own slice or array, or is one number's; what is written is
+// distinct from all else, and what is only read is lent as a constant.
 
 /// An acquire of the GCRA engine.
 #[inline]
@@ -21,6 +24,7 @@ pub fn gcra_acquire(
     plan: &Plan,
     ids: &mut [u32],
     tats: &mut [u64],
+    newest: &mut u64,
     moment: u64,
     subscriber: u32,
     cost: u32,
@@ -35,6 +39,7 @@ pub fn gcra_acquire(
             ids.len(),
             tats.as_mut_ptr(),
             tats.len(),
+            newest,
             moment,
             subscriber,
             cost,
@@ -48,6 +53,7 @@ pub fn gcra_peek(
     plan: &Plan,
     ids: &[u32],
     tats: &[u64],
+    newest: &u64,
     moment: u64,
     subscriber: u32,
     out: &mut [u64; 5],
@@ -61,6 +67,7 @@ pub fn gcra_peek(
             ids.len(),
             tats.as_ptr(),
             tats.len(),
+            newest,
             moment,
             subscriber,
             out.as_mut_ptr(),
@@ -69,13 +76,14 @@ pub fn gcra_peek(
 }
 
 /// A clear of the GCRA engine.
-pub fn gcra_clear(ids: &mut [u32], tats: &mut [u64], out: &mut [u64; 5]) {
+pub fn gcra_clear(ids: &mut [u32], tats: &mut [u64], newest: &mut u64, out: &mut [u64; 5]) {
     unsafe {
         sys::railcadence_gcra_clear(
             ids.as_mut_ptr(),
             ids.len(),
             tats.as_mut_ptr(),
             tats.len(),
+            newest,
             out.as_mut_ptr(),
         )
     }
@@ -83,12 +91,12 @@ pub fn gcra_clear(ids: &mut [u32], tats: &mut [u64], out: &mut [u64; 5]) {
 
 /// An acquire of the token bucket engine.
 #[inline]
-#[allow(clippy::too_many_arguments)]
 pub fn token_bucket_acquire(
     plan: &Plan,
     ids: &mut [u32],
     levels: &mut [u64],
     lasts: &mut [u64],
+    newest: &mut u64,
     moment: u64,
     subscriber: u32,
     cost: u32,
@@ -105,6 +113,7 @@ pub fn token_bucket_acquire(
             levels.len(),
             lasts.as_mut_ptr(),
             lasts.len(),
+            newest,
             moment,
             subscriber,
             cost,
@@ -119,6 +128,7 @@ pub fn token_bucket_peek(
     ids: &[u32],
     levels: &[u64],
     lasts: &[u64],
+    newest: &u64,
     moment: u64,
     subscriber: u32,
     out: &mut [u64; 5],
@@ -134,6 +144,7 @@ pub fn token_bucket_peek(
             levels.len(),
             lasts.as_ptr(),
             lasts.len(),
+            newest,
             moment,
             subscriber,
             out.as_mut_ptr(),
@@ -146,6 +157,7 @@ pub fn token_bucket_clear(
     ids: &mut [u32],
     levels: &mut [u64],
     lasts: &mut [u64],
+    newest: &mut u64,
     out: &mut [u64; 5],
 ) {
     unsafe {
@@ -156,6 +168,7 @@ pub fn token_bucket_clear(
             levels.len(),
             lasts.as_mut_ptr(),
             lasts.len(),
+            newest,
             out.as_mut_ptr(),
         )
     }
@@ -180,6 +193,7 @@ pub fn transcribe(
     text: &[u8],
     ids: &mut [u32],
     tats: &mut [u64],
+    newest: &mut u64,
     out: &mut [u8],
     result: &mut [u64; 2],
 ) {
@@ -191,6 +205,7 @@ pub fn transcribe(
             ids.len(),
             tats.as_mut_ptr(),
             tats.len(),
+            newest,
             out.as_mut_ptr(),
             out.len(),
             result.as_mut_ptr(),

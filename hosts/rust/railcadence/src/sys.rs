@@ -14,6 +14,7 @@ extern "C" {
         ids_len: usize,
         tats: *mut u64,
         tats_len: usize,
+        newest: *mut u64,
         moment: u64,
         subscriber: u32,
         cost: u32,
@@ -27,6 +28,7 @@ extern "C" {
         ids_len: usize,
         tats: *const u64,
         tats_len: usize,
+        newest: *const u64,
         moment: u64,
         subscriber: u32,
         out: *mut u64,
@@ -36,6 +38,7 @@ extern "C" {
         ids_len: usize,
         tats: *mut u64,
         tats_len: usize,
+        newest: *mut u64,
         out: *mut u64,
     );
     pub fn railcadence_token_bucket_acquire(
@@ -48,6 +51,7 @@ extern "C" {
         levels_len: usize,
         lasts: *mut u64,
         lasts_len: usize,
+        newest: *mut u64,
         moment: u64,
         subscriber: u32,
         cost: u32,
@@ -63,6 +67,7 @@ extern "C" {
         levels_len: usize,
         lasts: *const u64,
         lasts_len: usize,
+        newest: *const u64,
         moment: u64,
         subscriber: u32,
         out: *mut u64,
@@ -74,6 +79,7 @@ extern "C" {
         levels_len: usize,
         lasts: *mut u64,
         lasts_len: usize,
+        newest: *mut u64,
         out: *mut u64,
     );
     pub fn railcadence_transcribe(
@@ -83,6 +89,7 @@ extern "C" {
         ids_len: usize,
         tats: *mut u64,
         tats_len: usize,
+        newest: *mut u64,
         out: *mut u8,
         out_len: usize,
         result: *mut u64,

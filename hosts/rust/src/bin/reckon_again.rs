@@ -17,9 +17,9 @@ fn reckon(word: &str, numbers: &[u128]) -> (usize, Vec<u128>) {
     match word {
         "plan" => (3, vec![plan_of(numbers).within_limits() as u128]),
         "moment" => (1, vec![(numbers[0] <= LAST_MOMENT) as u128]),
-        // document 01's table of numbers, in the order of the checks; zeros beside each
+        // the documents' numbers in the order of the checks; zeros beside each
         "refused" => {
-            let number = [1, 2, 3, 4, 5, 6, 7, 9][numbers[0] as usize];
+            let number = [1, 2, 3, 11, 4, 5, 6, 7, 9][numbers[0] as usize];
             (2, vec![number, numbers[1], 0, 0, 0])
         }
         "cleared" => (1, vec![[0, 2][numbers[0] as usize], 0, 0, 0, 0]),

@@ -1,5 +1,5 @@
 //! One text given to the archive, by `railcadence_transcribe`, with columns and outputs of several lengths; the two numbers,
-//! the output and the columns are compared with the second implementation's.
+//! the output, the columns and the newest moment are compared with the second implementation's.
 
 use crate::compare::Difference;
 use crate::lending::{self, Held, Lending, Lengths, WRITTEN};
@@ -49,6 +49,10 @@ fn wrong(due: &Due, got: &Lending) -> Vec<String> {
     if !lent.holds(table) {
         words.extend(place("id", &table.ids, lent.ids.inside()));
         words.extend(place("TAT", &table.columns[0], lent.columns[0].inside()));
+        let (newest, left) = (table.newest, lent.newest[0]);
+        if left != newest {
+            words.push(format!("the newest moment is {left}, and {newest} is due"));
+        }
     }
     if !got.intact() {
         words.push("a guard was written".to_string());

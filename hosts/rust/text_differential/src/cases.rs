@@ -37,7 +37,7 @@ pub enum Source {
 
 pub struct Kind {
     pub name: &'static str,
-    /// The numbers that must be answered.
+    /// The numbers that must be answered. 7 never is: nothing but its own asks writes in the table of a text.
     pub reach: &'static [usize],
     pub source: Source,
 }
@@ -45,7 +45,7 @@ pub struct Kind {
 pub const KINDS: [Kind; 11] = [
     Kind {
         name: "example",
-        reach: &[0, 1, 2, 3, 4, 5, 6, 7, 8, 9, 10],
+        reach: &[0, 1, 2, 3, 4, 5, 6, 8, 9, 10, 11],
         source: Source::Listed(example::all),
     },
     Kind {
@@ -55,7 +55,7 @@ pub const KINDS: [Kind; 11] = [
     },
     Kind {
         name: "limit",
-        reach: &[0, 3, 4, 5, 6, 7, 8, 9, 10],
+        reach: &[0, 3, 4, 5, 6, 8, 9, 10, 11],
         source: Source::Listed(limit::all),
     },
     Kind {
@@ -70,27 +70,27 @@ pub const KINDS: [Kind; 11] = [
     },
     Kind {
         name: "border",
-        reach: &[0, 10],
+        reach: &[0, 8, 9, 10],
         source: Source::Listed(border::all),
     },
     Kind {
         name: "run",
-        reach: &[0, 3, 4, 5, 6, 7, 8, 9, 10],
+        reach: &[0, 3, 4, 5, 6, 8, 9, 10, 11],
         source: Source::Drawn(4, run::one),
     },
     Kind {
         name: "tricky",
-        reach: &[0, 3, 4, 5, 6, 8, 9, 10],
+        reach: &[0, 3, 4, 5, 6, 8, 9, 10, 11],
         source: Source::Drawn(16, tricky::one),
     },
     Kind {
         name: "damaged",
-        reach: &[0, 3, 6, 8, 9, 10],
+        reach: &[0, 3, 6, 8, 9, 10, 11],
         source: Source::Drawn(45, damaged::whole),
     },
     Kind {
         name: "pieces",
-        reach: &[0, 8, 9, 10],
+        reach: &[0, 8, 9, 10, 11],
         source: Source::Drawn(20, damaged::in_pieces),
     },
     Kind {

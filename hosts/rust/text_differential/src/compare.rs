@@ -23,7 +23,7 @@ pub fn compare(
     case: &Case,
     spoil: Option<Spoil>,
 ) -> io::Result<Result<Vec<u8>, Difference>> {
-    let expected = transcript(&case.input);
+    let expected = spoil::expected(spoil, &case.input, transcript(&case.input));
     let fed = spoil::input(spoil, &case.input);
     let most = 2 * expected.len() + (1 << 20);
     let (output, mut words) = match program.run(&fed, &case.feed, most)? {

@@ -1,5 +1,5 @@
 //! What is lent to the archive beside a text, and what is due of it: the lengths, the two numbers of the result, and what
-//! columns and output hold before and after.
+//! columns, newest moment and output hold before and after.
 
 use crate::lent::{Guarded, Lent};
 use crate::rng::Rng;
@@ -61,7 +61,7 @@ pub fn all(rng: &mut Rng, text: &[u8]) -> [(Lengths, u64); 8] {
     lengths.map(|(ids, tats, out, due)| (Lengths { ids, tats, out }, due))
 }
 
-/// What columns and output hold.
+/// What columns, newest moment and output hold.
 #[derive(Clone)]
 pub struct Held {
     pub table: Table<Paced>,
@@ -69,18 +69,18 @@ pub struct Held {
 }
 
 impl Held {
-    /// Columns without zeros, and an output without a byte that a text has.
+    /// Columns without zeros, any newest moment but 0, and an output without a byte that a text has.
     pub fn some(rng: &mut Rng, lengths: Lengths) -> Held {
         let ids = (0..lengths.ids).map(|_| rng.from(1, 9) as u32).collect();
         let tats = (0..lengths.tats).map(|_| rng.next() | 1).collect();
         Held {
-            table: Table::new(ids, vec![tats]),
+            table: Table::new(ids, vec![tats], rng.next() | 1),
             out: (0..lengths.out).map(|place| place as u8 | 0x80).collect(),
         }
     }
 
-    /// What is due after a text that is written. Where a run began, the table in front is the run's. Of the slots behind
-    /// it document 01 says nothing: they stay, as the contract has it.
+    /// What is due after a text that is written. Where a run began, the newest moment and the table in front are the run's. Of
+    /// the slots behind it document 01 says nothing: they stay, as the contract has it.
     pub fn after(&self, played: &Played) -> Held {
         let mut after = self.clone();
         after.out[..played.output.len()].copy_from_slice(&played.output);
@@ -88,12 +88,13 @@ impl Held {
             let slots = table.ids.len();
             after.table.ids[..slots].copy_from_slice(&table.ids);
             after.table.columns[0][..slots].copy_from_slice(&table.columns[0]);
+            after.table.newest = table.newest;
         }
         after
     }
 }
 
-/// The same as it is lent: columns, output and result between guards.
+/// The same as it is lent: columns, newest moment, output and result between guards.
 pub struct Lending {
     pub table: Lent,
     pub out: Guarded<u8>,
@@ -114,6 +115,7 @@ impl Lending {
             text,
             self.table.ids.inside_mut(),
             self.table.columns[0].inside_mut(),
+            &mut self.table.newest[0],
             self.out.inside_mut(),
             self.result.inside_mut().try_into().expect("two numbers"),
         );

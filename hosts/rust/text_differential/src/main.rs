@@ -138,6 +138,14 @@ fn run(options: Options) -> Result<ExitCode, Trouble> {
         tally.cases,
         tally.table().trim_end()
     );
+    let impossible = tally.impossible();
+    if !impossible.is_empty() {
+        let words = format!(
+            "These cannot occur in a text, and did: {}.",
+            impossible.join(", ")
+        );
+        return Err(Trouble::Differs(words));
+    }
     let missing = tally.missing();
     if missing.is_empty() {
         return Ok(ExitCode::SUCCESS);

@@ -15,8 +15,8 @@ text_differential [PROGRAM] [--seed N] [--cases N] [--without CONDITION] [--spoi
   --cases N            how many cases are drawn at random, beside the listed ones (default 4000)
   --without CONDITION  leaves out a condition; '--without list' lists them
   --spoil KIND         tries the comparison itself with one deliberate fault; '--spoil list' lists the kinds
-Ends with 0 if all agree, 1 at the first difference, 2 if not called as above or the program does not start, and
-3 if an outcome or a kind of line never occurred.";
+Ends with 0 if all agree, 1 at the first difference or if an outcome occurred that cannot, 2 if not called as above or the
+program does not start, and 3 if an outcome or a kind of line never occurred.";
 
 pub struct Options {
     pub program: PathBuf,

@@ -18,6 +18,8 @@ pub enum Spoil {
     Reads(fn(&[u8]) -> Vec<u8>),
     /// It writes other lines to an input.
     Writes(fn(&mut Lines, &[u8])),
+    /// It does, and so does the second implementation.
+    BothWrite(fn(&mut Lines, &[u8])),
     /// It ends with a status that is not 0.
     EndsBadly,
     /// It does not notice that its output is not written.
@@ -59,9 +61,21 @@ pub fn input(spoil: Option<Spoil>, input: &[u8]) -> Vec<u8> {
 
 /// What it is taken to have written.
 pub fn output(spoil: Option<Spoil>, input: &[u8], output: Vec<u8>) -> Vec<u8> {
-    let Some(Spoil::Writes(change)) = spoil else {
-        return output;
-    };
+    match spoil {
+        Some(Spoil::Writes(change) | Spoil::BothWrite(change)) => changed(change, input, output),
+        _ => output,
+    }
+}
+
+/// What the second implementation is taken to have written.
+pub fn expected(spoil: Option<Spoil>, input: &[u8], output: Vec<u8>) -> Vec<u8> {
+    match spoil {
+        Some(Spoil::BothWrite(change)) => changed(change, input, output),
+        _ => output,
+    }
+}
+
+fn changed(change: fn(&mut Lines, &[u8]), input: &[u8], output: Vec<u8>) -> Vec<u8> {
     let mut lines = split(&output);
     change(&mut lines, input);
     lines.concat()

@@ -1,5 +1,5 @@
 //! How often each number was answered, by kind of case, how many lines of each sort there were, and how often the archive gave
-//! each result; and what of this must have occurred.
+//! each result; and what of this must have occurred and what not.
 
 use crate::cases::Kind;
 use crate::text::{begins_a_run, lines};
@@ -41,6 +41,10 @@ const SORTS: [(Sort, &str); 13] = [
 ];
 
 const UNREADABLE: usize = 10;
+/// A record that no admission can have left, which a text cannot come to.
+const CORRUPT: usize = 7;
+/// The numbers from 0 to 11.
+const NUMBERS: usize = 12;
 
 /// Of `railcadence_transcribe`, by their numbers.
 const RESULTS: [&str; 3] = [
@@ -52,7 +56,7 @@ const RESULTS: [&str; 3] = [
 pub struct Tally {
     pub cases: u64,
     /// By kind of case, and by number.
-    numbers: Vec<(&'static str, &'static [usize], [u64; 11])>,
+    numbers: Vec<(&'static str, &'static [usize], [u64; NUMBERS])>,
     sorts: [u64; SORTS.len()],
     results: [u64; RESULTS.len()],
 }
@@ -88,7 +92,7 @@ impl Tally {
     }
 
     pub fn begin(&mut self, kind: &Kind) {
-        self.numbers.push((kind.name, kind.reach, [0; 11]));
+        self.numbers.push((kind.name, kind.reach, [0; NUMBERS]));
     }
 
     /// Counts a case that was compared.
@@ -129,7 +133,7 @@ impl Tally {
     }
 
     pub fn table(&self) -> String {
-        let heads: String = (0..11).map(|number| format!("{number:>8}")).collect();
+        let heads: String = (0..NUMBERS).map(|number| format!("{number:>8}")).collect();
         let mut text = format!("{:10}{heads}\n", "");
         for (name, _, counts) in &self.numbers {
             let cells: String = counts.iter().map(|count| format!("{count:>8}")).collect();
@@ -144,6 +148,14 @@ impl Tally {
             text += &format!("{count:>10}  {words}\n");
         }
         text
+    }
+
+    /// What cannot have occurred and did, in words.
+    pub fn impossible(&self) -> Vec<String> {
+        let found = self.numbers.iter().filter(|kind| kind.2[CORRUPT] > 0);
+        found
+            .map(|(name, ..)| format!("{name} {CORRUPT}"))
+            .collect()
     }
 
     /// What should have occurred and did not, in words.

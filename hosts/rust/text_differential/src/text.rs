@@ -45,17 +45,23 @@ pub fn ask(moment: u64, subscriber: u64, cost: u64) -> Vec<u8> {
     format!("ask\t{moment}\t{subscriber}\t{cost}\n").into_bytes()
 }
 
-/// What `ask_of_length` can make.
-const SHORTEST_ASK: usize = 10;
-const LONGEST_ASK: usize = 30;
+/// What `ask_of_length` can make: 3 letters, 3 tabs, an LF, a moment of 8 digits, and a subscriber and a cost of up to 9.
+const SHORTEST_ASK: usize = 17;
+const LONGEST_ASK: usize = 33;
 
-/// A readable ask of this many bytes with its LF: 3 letters, 3 tabs, an LF, and digits.
-fn ask_of_length(rng: &mut Rng, length: usize) -> Vec<u8> {
-    let digits = length - 7;
-    let of_moment = (digits - 2).min(13);
-    let moment = with_digits(rng, of_moment);
-    let subscriber = with_digits(rng, digits - 1 - of_moment);
-    ask(moment, subscriber, rng.from(1, 2))
+/// A readable ask of this many bytes with its LF, which begins at this place of a text. The later the place, the later the
+/// moment.
+fn ask_of_length(rng: &mut Rng, place: usize, length: usize) -> Vec<u8> {
+    let pace = 50;
+    let step = rng.below(pace * SHORTEST_ASK as u64);
+    let moment = 10_000_000 + pace * place as u64 + step;
+    let more = length - SHORTEST_ASK;
+    let subscriber = with_digits(rng, 1 + more.min(8));
+    let cost = match more {
+        0..=8 => rng.from(1, 2),
+        _ => with_digits(rng, more - 7),
+    };
+    ask(moment, subscriber, cost)
 }
 
 fn with_digits(rng: &mut Rng, digits: usize) -> u64 {
@@ -63,15 +69,13 @@ fn with_digits(rng: &mut Rng, digits: usize) -> u64 {
     rng.from(least, 10 * least - 1)
 }
 
-/// Adds readable asks until the text is so many bytes long, which is at least 40 more than it is.
+/// Adds readable asks, whose moments never fall, until the text is so many bytes long, which is at least 17 more than it is.
 pub fn fill(rng: &mut Rng, text: &mut Vec<u8>, length: usize) {
     while length - text.len() > LONGEST_ASK {
-        let size = rng.from(
-            SHORTEST_ASK as u64 + 4,
-            LONGEST_ASK as u64 - SHORTEST_ASK as u64,
-        );
-        text.extend(ask_of_length(rng, size as usize));
+        let most = length - text.len() - SHORTEST_ASK;
+        let size = rng.from(SHORTEST_ASK as u64, most.min(20) as u64);
+        text.extend(ask_of_length(rng, text.len(), size as usize));
     }
     let rest = length - text.len();
-    text.extend(ask_of_length(rng, rest));
+    text.extend(ask_of_length(rng, text.len(), rest));
 }

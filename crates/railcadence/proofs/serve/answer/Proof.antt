@@ -8,6 +8,7 @@ use lib.ListN.{length, take, length-take}
 use lib.Seq.{length-take-le}
 use denote.Ref.{now}
 use borrow.Author.Needs.{needs}
+use Rattle.table_gcra.specs.Table.{tableOf}
 use Rattle.text_transcript.specs.Running.{stateOf}
 use Rattle.text_session.specs.Stream.{State, said}
 use Rattle.text_protocol.specs.Reply.{mostReply}
@@ -19,7 +20,8 @@ use Rattle.railcadence.proofs.serve.answer.Tie as tie
 
 -- the state before the piece, the bytes that are fed, and that a line for each of them fits
 abbrev before : tie.Start → State
-before s = stateOf (s .args .session) (now (s .args .line)) (now (s .args .ids)) (now (s .args .tats))
+before s =
+    stateOf (s .args .session) (now (s .args .line)) (tableOf (now (s .args .ids)) (now (s .args .tats)) (now (s .args .newest)))
 
 abbrev bytes : tie.Start → List ℕ
 bytes s = take (s .args .n) (now (s .args .piece))
@@ -34,14 +36,14 @@ slice-aggregate-feed c =
 
 feed-requires : tie.Need-feed-requires
 feed-requires c κs =
-    let start = c .before .before .before .before .before .before .before .before .before .before in
+    let start = c .before .before .before .before .before .before .before .before .before .before .before in
     (start .pre .0, (start .pre .1 .0, answers-fit (before start) _ refl (omega (arith, fits start))))
 
 write-requires : tie.Need-write-requires
 write-requires c κs =
     let out = c .before .before .before .before in
     let fed = out .before .before .before .before .before .before .before in
-    let start = fed .before .before .before .before .before .before .before .before .before .before .before in
+    let start = fed .before .before .before .before .before .before .before .before .before .before .before .before in
     let within : fed .feed .result .at ≤ length (now (start .args .out)) =
     answers-fit (before start) _ (fed .feed .ensures .at-is) (omega (arith, fits start)) in
     omega (arith, out .out .given)
@@ -50,7 +52,7 @@ returns : tie.Need-returns
 unfolding Onwards
 returns c =
     let fed = c .before .before .before .before .before .before .before .before .before .before .before .before .before in
-    let start = fed .before .before .before .before .before .before .before .before .before .before .before in
+    let start = fed .before .before .before .before .before .before .before .before .before .before .before .before in
     let moved = fed .feed .ensures in
     let counted = c .before .write .ensures (c .if1 .taken) in
     let room = answers-fit (before start) (bytes start) refl (fits start) in

@@ -7,6 +7,7 @@ use native.Mathlib.Omega.{arith}
 use lib.ListN.{length}
 use lib.Seq.{length-take-le}
 use borrow.Author.Needs.{needs}
+use Rattle.table_gcra.specs.Table.{tableOf}
 use Rattle.text_transcript.specs.Running.{Ready, stateOf}
 use Rattle.text_transcript.proofs.Entire.{ready-start}
 use Rattle.railcadence.specs.Serving.{Counted, Finished, accountOf}
@@ -18,13 +19,14 @@ use Rattle.railcadence.proofs.serve.pieces.Statement.{statement}
 use Rattle.railcadence.proofs.serve.pieces.Tie as tie
 
 abbrev Inv-loop : tie.InvT-loop
-Inv-loop piece₀ line₀ ids₀ tats₀ out₀ taken₀ sent₀ session₀ turns₀ piece line ids tats out taken sent session turns =
+Inv-loop piece₀ line₀ ids₀ tats₀ newest₀ out₀ taken₀ sent₀ session₀ turns₀ piece line ids tats newest out taken sent session turns =
     Ready session line
     × (Same piece line ids tats out piece₀ line₀ ids₀ tats₀ out₀
-    × Reached (accountOf ids₀ tats₀ taken₀ sent₀) turns (stateOf session line ids tats) taken sent)
+    × Reached (accountOf (tableOf ids₀ tats₀ newest₀) taken₀ sent₀) turns
+    (stateOf session line (tableOf ids tats newest)) taken sent)
 
 abbrev μ-loop : tie.MeasureT-loop
-μ-loop piece₀ line₀ ids₀ tats₀ out₀ taken₀ sent₀ session₀ turns₀ piece line ids tats out taken sent session turns = turns
+μ-loop piece₀ line₀ ids₀ tats₀ newest₀ out₀ taken₀ sent₀ session₀ turns₀ piece line ids tats newest out taken sent session turns = turns
 
 -- the head of a turn that has read, and what the read got
 abbrev head : tie.After-piece Inv-loop μ-loop → tie.At-loop Inv-loop μ-loop
@@ -37,7 +39,7 @@ got c = took-got _ _ _ _ (c .before .before .before .before .read .ensures) (c .
 
 -- the piece of a turn that has answered it, and that the turn was not the last
 abbrev answered : tie.After-answer Inv-loop μ-loop → tie.After-piece Inv-loop μ-loop
-answered c = c .before .before .before .before .before .before .before .before .before .before .before
+answered c = c .before .before .before .before .before .before .before .before .before .before .before .before
 
 turn-left : (c : tie.After-answer Inv-loop μ-loop) → 1 ≤ head (answered c) .loop .turns
 turn-left c = omega (arith, answered c .before .before .before .before .if1 .left)
@@ -50,7 +52,7 @@ loop-holds c =
 
 answer-requires : tie.Need-answer-requires Inv-loop μ-loop
 answer-requires c κs =
-    let n = c .before .before .before .before .before .before .before in
+    let n = c .before .before .before .before .before .before .before .before in
     let piece = n .before .before .before in
     let inv = head piece .loop .inv in
     let same = inv .1 .0 in
@@ -88,9 +90,9 @@ loop-again c =
     let piece = answered answer in
     let inv = head piece .loop .inv in
     let same = inv .1 .0 in
-    let read = got (answer .before .before .before .before .before .before .before .before) in
+    let read = got (answer .before .before .before .before .before .before .before .before .before) in
     let whole = length-take-le _ _ (read .1 .0) in
-    let advanced = onwards-next _ _ _ _ _ _ _ _ _ (answer .answer .ensures) (next .next .given .1) in (
+    let advanced = onwards-next _ _ _ _ _ _ _ _ (answer .answer .ensures) (next .told .given .1) in (
       advanced .ready,
       (
         record {

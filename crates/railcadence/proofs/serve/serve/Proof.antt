@@ -3,6 +3,7 @@
 use native.Mathlib.Omega.{arith}
 use denote.Ref.{now}
 use borrow.Author.Needs.{needs}
+use Rattle.table_gcra.specs.Table.{tableOf}
 use Rattle.text_protocol.proofs.Lengths.{header-length}
 use Rattle.railcadence.specs.Serving.{Finished, accountOf}
 use Rattle.railcadence.proofs.Reached.{served}
@@ -15,11 +16,11 @@ begin-requires c κs = omega (arith, header-length, c .before .before .before .b
 returns : tie.Need-returns
 returns c =
     let ran = c .before .before .before .before .before .before .before .before .before .before in
-    let went = ran .before .before .before .before .before .before .before .before in
+    let went = ran .before .before .before .before .before .before .before .before .before in
     let begun = went .before .before .before in
     let start = begun .before .before .before .before .before .before .before .before in
     let a = start .args in
-    let account = accountOf (now (a .ids)) (now (a .tats)) (now (a .taken)) (now (a .sent)) in
+    let account = accountOf (tableOf (now (a .ids)) (now (a .tats)) (now (a .newest))) (now (a .taken)) (now (a .sent)) in
     served account (start .pre .1 .0) (begun .begin .ensures (went .if1 .taken) .sent-is) _ _ (ran .pieces .ensures)
 
 returns-2 : tie.Need-returns-2

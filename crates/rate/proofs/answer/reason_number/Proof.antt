@@ -38,10 +38,15 @@ returns-8 : tie.Need-returns-8
 unfolding reasonNumber
 returns-8 c = sym (ap reasonNumber (c .enum-told8 .given .1))
 
+returns-9 : tie.Need-returns-9
+unfolding reasonNumber
+returns-9 c = sym (ap reasonNumber (c .enum-told9 .given .1))
+
 pub reason-number-spec : {M : Type 1} → statement M
 reason-number-spec =
     tie.close
     (tie.spec
+    (λ c. search needs)
     (λ c. search needs)
     (λ c. search needs)
     (λ c. search needs)
@@ -57,4 +62,5 @@ reason-number-spec =
     returns-5
     returns-6
     returns-7
-    returns-8)
+    returns-8
+    returns-9)

@@ -16,7 +16,7 @@ returns : tie.Need-returns
 unfolding checkNumber
 returns c =
     let S = c .before .before .before .before .args in
-    let r = tollOf (gateOf (S .ok) (S .slots) (S .moment .0) (S .subscriber)) (S .most) (S .cost) in
+    let r = tollOf (gateOf (S .ok) (S .slots) (S .newest .0) (S .moment .0) (S .subscriber)) (S .most) (S .cost) in
     let failed = sym (c .before .before .before .query .ensures) ∙ ap (λ (k : Check). checkNumber k) (c .before .reason .given .1) in
     let number = ap (λ (n : ℕ). eqb n 0) failed ∙ refuses (c .before .reason .given .0 .0) in
     sym (query-first r number ∙ failed)
@@ -25,7 +25,7 @@ returns-2 : tie.Need-returns-2
 unfolding checkNumber
 returns-2 c =
     let S = c .before .before .before .before .args in
-    let r = tollOf (gateOf (S .ok) (S .slots) (S .moment .0) (S .subscriber)) (S .most) (S .cost) in
+    let r = tollOf (gateOf (S .ok) (S .slots) (S .newest .0) (S .moment .0) (S .subscriber)) (S .most) (S .cost) in
     let passed = sym (c .before .before .before .query .ensures) ∙ ap (λ (k : Check). checkNumber k) (c .before .enum-told .given .1) in
     zero-cost ∙ sym (number-5 r passed (eq-eqb (S .cost) 0 (c .if1 .taken)))
 
@@ -33,7 +33,7 @@ returns-3 : tie.Need-returns-3
 unfolding checkNumber
 returns-3 c =
     let S = c .before .before .before .before .before .args in
-    let r = tollOf (gateOf (S .ok) (S .slots) (S .moment .0) (S .subscriber)) (S .most) (S .cost) in
+    let r = tollOf (gateOf (S .ok) (S .slots) (S .newest .0) (S .moment .0) (S .subscriber)) (S .most) (S .cost) in
     let passed = sym (c .before .before .before .before .query .ensures) ∙ ap (λ (k : Check). checkNumber k) (c .before .before .enum-told .given .1) in
     let cost = ne-eqb (S .cost) 0 (c .before .if1 .left) in
     cost-above-burst ∙ sym (number-6 r passed cost (lt-ltb (S .most) (S .cost) (c .if2 .taken)))
@@ -42,7 +42,7 @@ returns-4 : tie.Need-returns-4
 unfolding checkNumber
 returns-4 c =
     let S = c .before .before .before .before .before .args in
-    let r = tollOf (gateOf (S .ok) (S .slots) (S .moment .0) (S .subscriber)) (S .most) (S .cost) in
+    let r = tollOf (gateOf (S .ok) (S .slots) (S .newest .0) (S .moment .0) (S .subscriber)) (S .most) (S .cost) in
     let passed = sym (c .before .before .before .before .query .ensures) ∙ ap (λ (k : Check). checkNumber k) (c .before .before .enum-told .given .1) in
     let cost = ne-eqb (S .cost) 0 (c .before .if1 .left) in
     sym (passes r passed cost (le-ltb (S .most) (S .cost) (c .if2 .left)))

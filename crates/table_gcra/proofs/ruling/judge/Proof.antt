@@ -13,6 +13,7 @@ use Rattle.table.specs.declared.check.Check.the-variants.{Passed}
 use Rattle.table.specs.Request.{Request, requestOf}
 use Rattle.table.specs.Checks.{checkNumber, requestCheck}
 use Rattle.table.specs.Calls.{slotFor, toll}
+use Rattle.table.proofs.Cases.{slot-reads}
 use Rattle.table.proofs.Checks.{Asked, asked-in-force}
 use Rattle.table.proofs.Judging.{request-says, request-asked, asked-equal, judges-refused, judges-keep, judges-write, judges-full}
 use Rattle.table_gcra.specs.declared.slot.Slot.{Slot}
@@ -29,7 +30,7 @@ asks c =
 abbrev over : tie.After-request → Table
 over c =
     let S = c .before .before .before .before .before .args in
-    tableOf (now (S .ids)) (now (S .tats))
+    tableOf (now (S .ids)) (now (S .tats)) (S .newest .0)
 
 says : (c : tie.After-request) → checkNumber (c .request .result) ≡ requestCheck (toll rule columns (asks c) (over c))
 unfolding columns
@@ -39,7 +40,7 @@ shown : (c : tie.After-request) → c .request .result ≡ Passed → Asked (tol
 shown c passed = request-asked (toll rule columns (asks c) (over c)) (says c) passed
 
 force : (c : tie.After-request) → c .request .result ≡ Passed → InForce (asks c .query .setting) (asks c .query .moment)
-force c passed = asked-in-force _ _ _ _ (shown c passed)
+force c passed = asked-in-force _ _ _ _ _ (shown c passed)
 
 equal : (c : tie.After-request) → c .request .result ≡ Passed → length (over c .ids) ≡ length (over c .tats)
 unfolding columns
@@ -50,7 +51,12 @@ slot-is :
     (c : tie.After-slot-for) {s : Slot} → c .slot-for .result ≡ s →
     let checked = c .before .before .before in
     slotFor rule columns (asks checked .query) (over checked) ≡ slotOf s
-slot-is c e = sym (c .slot-for .ensures) ∙ ap (λ (x : Slot). slotOf x) e
+unfolding columns
+slot-is c e =
+    let checked = c .before .before .before in
+    slot-reads rule columns (over checked) (asks checked .query) _ refl refl refl
+    ∙ sym (c .slot-for .ensures)
+    ∙ ap (λ (x : Slot). slotOf x) e
 
 returns : tie.Need-returns
 unfolding rulingOf

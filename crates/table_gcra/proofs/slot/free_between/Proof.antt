@@ -8,12 +8,12 @@ use denote.Ref.{now}
 use Rattle.table.specs.Slots.{vacant, NoneBelow}
 use Rattle.table.proofs.Seek.{none-next, seek-end, seek-here}
 use Rattle.table.proofs.Slots.{vacant-empty, vacant-held}
-use Rattle.table_gcra.specs.Table.{tableOf, columns, rule}
+use Rattle.table_gcra.specs.Table.{columnsOf, columns, rule}
 use Rattle.table_gcra.proofs.slot.free_between.Statement.{statement}
 use Rattle.table_gcra.proofs.slot.free_between.Tie as tie
 
 abbrev Inv-loop : tie.InvT-loop
-Inv-loop plan ids tats moment from to i₀ i = NoneBelow (vacant rule columns plan (moment .0) (tableOf ids tats)) i
+Inv-loop plan ids tats moment from to i₀ i = NoneBelow (vacant rule columns plan (moment .0) (columnsOf ids tats)) i
 
 abbrev μ-loop : tie.MeasureT-loop
 μ-loop plan ids tats moment from to i₀ i = to - i

@@ -14,14 +14,14 @@ use Rattle.table.specs.Slots.{vacant, NoneBelow}
 use Rattle.table.proofs.Judging.{free-found}
 use Rattle.table.proofs.Seek.{none-block, seek-before, none-before, seek-end}
 use Rattle.table.proofs.Slots.{none-vacant, at-most-test}
-use Rattle.table_gcra.specs.Table.{tableOf, columns, rule}
+use Rattle.table_gcra.specs.Table.{columnsOf, columns, rule}
 use Rattle.table_gcra.proofs.Lengths.{all-slots}
 use Rattle.table_gcra.proofs.slot.lowest_free.Statement.{statement}
 use Rattle.table_gcra.proofs.slot.lowest_free.Tie as tie
 
 abbrev Inv-loop : tie.InvT-loop
 Inv-loop plan ids tats moment drained at₀ at =
-    (at ≤ length ids) × NoneBelow (vacant rule columns plan (moment .0) (tableOf ids tats)) at
+    (at ≤ length ids) × NoneBelow (vacant rule columns plan (moment .0) (columnsOf ids tats)) at
 
 abbrev μ-loop : tie.MeasureT-loop
 μ-loop plan ids tats moment drained at₀ at = length ids - at
@@ -30,7 +30,7 @@ abbrev μ-loop : tie.MeasureT-loop
 passed :
     (c : tie.After-skip Inv-loop μ-loop) →
     let S = c .before .before .before .before .before .args in
-    NoneBelow (vacant rule columns (S .plan) (S .moment .0) (tableOf (now (S .ids)) (now (S .tats)))) (c .skip .result)
+    NoneBelow (vacant rule columns (S .plan) (S .moment .0) (columnsOf (now (S .ids)) (now (S .tats)))) (c .skip .result)
 unfolding columns
 passed c =
     let at-loop = c .before .loop in
@@ -66,13 +66,13 @@ loop-again c = (omega arith, none-before _ (c .before .before .before .free-betw
 returns : tie.Need-returns Inv-loop μ-loop
 returns c =
     let S = c .before .before .before .before .before .before .before .before .before .before in
-    free-found columns _ (all-slots _ _ (S .pre .0)) rule _ _
+    free-found columns _ (all-slots _ (S .pre .0)) rule _ _
     (seek-before _ (omega arith) (c .before .before .before .free-between .ensures) (c .before .free .given .1))
 
 returns-2 : tie.Need-returns-2 Inv-loop μ-loop
 returns-2 c =
     let S = c .before .before .before .before .before .before .before .before .before .before in
-    free-found columns _ (all-slots _ _ (S .pre .0)) rule _ _
+    free-found columns _ (all-slots _ (S .pre .0)) rule _ _
     (seek-end _ _ _ (none-before _ (c .before .before .before .free-between .ensures) (c .before .enum-told .given .1)) (c .if1 .taken))
 
 pub lowest-free-spec : {M : Type 1} → statement M

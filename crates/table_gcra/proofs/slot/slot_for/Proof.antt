@@ -13,7 +13,7 @@ use Rattle.table.specs.Calls.{at}
 use Rattle.table.proofs.Cases.{slot-own, slot-new, slot-none}
 use Rattle.table.proofs.Judging.{own-found}
 use Rattle.table.proofs.Seek.{found-within}
-use Rattle.table_gcra.specs.Table.{Table, tableOf, columns, rule, slotOf}
+use Rattle.table_gcra.specs.Table.{Table, columnsOf, columns, rule, slotOf}
 use Rattle.table_gcra.proofs.Lengths.{all-slots}
 use Rattle.table_gcra.proofs.slot.slot_for.Statement.{statement}
 use Rattle.table_gcra.proofs.slot.slot_for.Tie as tie
@@ -27,11 +27,11 @@ asks c =
 abbrev over : tie.After-find → Table
 over c =
     let S = c .before .before .before .args in
-    tableOf (now (S .ids)) (now (S .tats))
+    columnsOf (now (S .ids)) (now (S .tats))
 
 own-is : (c : tie.After-find) {p : Place} → c .find .result ≡ p → own columns (asks c .subscriber) (over c) ≡ p
 unfolding columns
-own-is c e = own-found columns (over c) (all-slots (over c .ids) (over c .tats) (c .before .before .before .pre .0)) _ (c .find .ensures) e
+own-is c e = own-found columns (over c) (all-slots (over c) (c .before .before .before .pre .0)) _ (c .find .ensures) e
 
 mul-t9 : tie.Need-mul-t9
 mul-t9 c =

@@ -12,6 +12,7 @@ use Rattle.table.specs.declared.check.Check.the-variants.{Passed}
 use Rattle.table.specs.Request.{Request, requestOf}
 use Rattle.table.specs.Checks.{checkNumber, requestCheck}
 use Rattle.table.specs.Calls.{slotFor, toll}
+use Rattle.table.proofs.Cases.{slot-reads}
 use Rattle.table.proofs.Checks.{Asked, asked-in-force}
 use Rattle.table.proofs.Judging.{request-says, request-asked, judges-refused, judges-keep, judges-write, judges-full}
 use Rattle.table_token_bucket.specs.declared.slot.Slot.{Slot}
@@ -29,9 +30,10 @@ asks c =
 abbrev over : tie.After-request → Table
 over c =
     let S = c .before .before .before .before .before .before .before .args in
-    tableOf (now (S .ids)) (now (S .levels)) (now (S .lasts))
+    tableOf (now (S .ids)) (now (S .levels)) (now (S .lasts)) (S .newest .0)
 
 says : (c : tie.After-request) → checkNumber (c .request .result) ≡ requestCheck (toll rule columns (asks c) (over c))
+unfolding columns
 says c = request-says rule columns (over c) (asks c) (c .request .ensures) (c .before .is-ok .ensures)
     (counted (over c) (c .before .before .before .common .ensures) (c .before .before .common2 .ensures))
 
@@ -39,9 +41,9 @@ shown : (c : tie.After-request) → c .request .result ≡ Passed → Asked (tol
 shown c passed = request-asked (toll rule columns (asks c) (over c)) (says c) passed
 
 force : (c : tie.After-request) → c .request .result ≡ Passed → InForce (asks c .query .setting) (asks c .query .moment)
-force c passed = asked-in-force _ _ _ _ (shown c passed)
+force c passed = asked-in-force _ _ _ _ _ (shown c passed)
 
-even-there : (c : tie.After-request) → c .request .result ≡ Passed → Even (over c)
+even-there : (c : tie.After-request) → c .request .result ≡ Passed → Even (over c .ids) (over c .levels) (over c .lasts)
 even-there c passed = even (over c) _ refl (shown c passed)
 
 -- the slot that it is judged in
@@ -49,7 +51,12 @@ slot-is :
     (c : tie.After-slot-for) {s : Slot} → c .slot-for .result ≡ s →
     let checked = c .before .before .before in
     slotFor rule columns (asks checked .query) (over checked) ≡ slotOf s
-slot-is c e = sym (c .slot-for .ensures) ∙ ap (λ (x : Slot). slotOf x) e
+unfolding columns
+slot-is c e =
+    let checked = c .before .before .before in
+    slot-reads rule columns (over checked) (asks checked .query) _ refl refl refl
+    ∙ sym (c .slot-for .ensures)
+    ∙ ap (λ (x : Slot). slotOf x) e
 
 returns : tie.Need-returns
 unfolding rulingOf

@@ -6,14 +6,14 @@ use native.Mathlib.Omega.{arith}
 use Rattle.table.specs.Slots.{vacant, NoneBelow}
 use Rattle.table.proofs.Seek.{none-next, seek-end, seek-here}
 use Rattle.table.proofs.Slots.{vacant-empty, vacant-held}
-use Rattle.table_token_bucket.specs.Table.{tableOf, columns, rule}
+use Rattle.table_token_bucket.specs.Table.{columnsOf, columns, rule}
 use Rattle.table_token_bucket.proofs.Columns.{within}
 use Rattle.table_token_bucket.proofs.slot.free_between.Statement.{statement}
 use Rattle.table_token_bucket.proofs.slot.free_between.Tie as tie
 
 abbrev Inv-loop : tie.InvT-loop
 Inv-loop plan ids levels lasts moment from to i₀ i =
-    NoneBelow (vacant rule columns plan (moment .0) (tableOf ids levels lasts)) i
+    NoneBelow (vacant rule columns plan (moment .0) (columnsOf ids levels lasts)) i
 
 abbrev μ-loop : tie.MeasureT-loop
 μ-loop plan ids levels lasts moment from to i₀ i = to - i

@@ -7,14 +7,14 @@ use lib.ListN.{length}
 use Rattle.table.specs.Slots.{vacant, NoneBelow}
 use Rattle.table.proofs.Judging.{free-found}
 use Rattle.table.proofs.Seek.{none-block, seek-before, none-before, seek-end}
-use Rattle.table_token_bucket.specs.Table.{tableOf, columns, rule}
+use Rattle.table_token_bucket.specs.Table.{columnsOf, columns, rule}
 use Rattle.table_token_bucket.proofs.Columns.{all-slots}
 use Rattle.table_token_bucket.proofs.slot.lowest_free.Statement.{statement}
 use Rattle.table_token_bucket.proofs.slot.lowest_free.Tie as tie
 
 abbrev Inv-loop : tie.InvT-loop
 Inv-loop plan ids levels lasts moment at₀ at =
-    (at ≤ length ids) × NoneBelow (vacant rule columns plan (moment .0) (tableOf ids levels lasts)) at
+    (at ≤ length ids) × NoneBelow (vacant rule columns plan (moment .0) (columnsOf ids levels lasts)) at
 
 abbrev μ-loop : tie.MeasureT-loop
 μ-loop plan ids levels lasts moment at₀ at = length ids - at

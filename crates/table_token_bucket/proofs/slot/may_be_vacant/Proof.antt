@@ -10,7 +10,7 @@ use Rattle.rule_token_bucket.specs.declared.Bucket.{Bucket}
 use Rattle.table.specs.Slots.{carries, NoneFrom}
 use Rattle.table.proofs.Seek.{from-next}
 use Rattle.table.proofs.Slots.{none-vacant}
-use Rattle.table_token_bucket.specs.Table.{tableOf, columns, rule, bucketAt}
+use Rattle.table_token_bucket.specs.Table.{columnsOf, columns, rule, bucketAt}
 use Rattle.table_token_bucket.proofs.Columns.{within}
 use Rattle.table_token_bucket.proofs.slot.may_be_vacant.Statement.{statement}
 use Rattle.table_token_bucket.proofs.slot.may_be_vacant.Tie as tie

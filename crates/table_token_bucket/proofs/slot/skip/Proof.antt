@@ -6,13 +6,13 @@ use native.Mathlib.Omega.{arith}
 use lib.ListN.{length}
 use Rattle.table.specs.Slots.{vacant, NoneFrom}
 use Rattle.table.proofs.Seek.{from-block}
-use Rattle.table_token_bucket.specs.Table.{tableOf, columns, rule}
+use Rattle.table_token_bucket.specs.Table.{columnsOf, columns, rule}
 use Rattle.table_token_bucket.proofs.slot.skip.Statement.{statement}
 use Rattle.table_token_bucket.proofs.slot.skip.Tie as tie
 
 abbrev Inv-loop : tie.InvT-loop
 Inv-loop plan ids levels lasts moment from at₀ at =
-    ((from ≤ at) × (at ≤ length ids)) × NoneFrom (vacant rule columns plan (moment .0) (tableOf ids levels lasts)) from at
+    ((from ≤ at) × (at ≤ length ids)) × NoneFrom (vacant rule columns plan (moment .0) (columnsOf ids levels lasts)) from at
 
 abbrev μ-loop : tie.MeasureT-loop
 μ-loop plan ids levels lasts moment from at₀ at = length ids - at

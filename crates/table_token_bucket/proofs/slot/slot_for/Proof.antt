@@ -12,7 +12,7 @@ use Rattle.table.specs.Calls.{at}
 use Rattle.table.proofs.Cases.{slot-own, slot-new, slot-none}
 use Rattle.table.proofs.Judging.{own-found}
 use Rattle.table.proofs.Seek.{found-within}
-use Rattle.table_token_bucket.specs.Table.{Table, tableOf, columns, rule, slotOf}
+use Rattle.table_token_bucket.specs.Table.{Table, columnsOf, columns, rule, slotOf}
 use Rattle.table_token_bucket.proofs.Columns.{all-slots, within}
 use Rattle.table_token_bucket.proofs.slot.slot_for.Statement.{statement}
 use Rattle.table_token_bucket.proofs.slot.slot_for.Tie as tie
@@ -26,7 +26,7 @@ asks c =
 abbrev over : tie.After-find → Table
 over c =
     let S = c .before .before .before .before .args in
-    tableOf (now (S .ids)) (now (S .levels)) (now (S .lasts))
+    columnsOf (now (S .ids)) (now (S .levels)) (now (S .lasts))
 
 own-is : (c : tie.After-find) {p : Place} → c .find .result ≡ p → own columns (asks c .subscriber) (over c) ≡ p
 unfolding columns

@@ -22,12 +22,12 @@ answer-requires c κs = search needs
 put-requires : tie.Need-put-requires
 put-requires c κs =
     let p5 = c .before .before .before .before .before in
-    let p10 = p5 .before .before .before .before .before in
-    let start = p10 .before .before .before .before .before .before .before in
+    let p11 = p5 .before .before .before .before .before .before in
+    let start = p11 .before .before .before .before .before .before .before in
     let S = start .args in
-    let t = tableOf (now (S .ids)) (now (S .tats)) in
-    let told = p5 .answer .ensures ∙ ap (λ (x : Command). answer (S .session .stage) x t) (p10 .ended .ensures) in
-    reply-room (kept (stateOf (S .session) (now (S .line)) (now (S .ids)) (now (S .tats))) (now (S .rest))) (p5 .answer .result) told (S .at) (start .pre .1 .1)
+    let t = tableOf (now (S .ids)) (now (S .tats)) (now (S .newest)) in
+    let told = p5 .answer .ensures ∙ ap (λ (x : Command). answer (S .session .stage) x t) (p11 .ended .ensures) in
+    reply-room (kept (stateOf (S .session) (now (S .line)) t) (now (S .rest))) (p5 .answer .result) told (S .at) (start .pre .1 .1)
 
 same-length : tie.Need-same-length
 same-length c = search needs
@@ -44,12 +44,12 @@ same-length-4 c = search needs
 returns : tie.Need-returns
 returns c =
     let p8 = c .before .before .before .before .before .before .before .before in
-    let p13 = p8 .before .before .before .before .before in
-    let start = p13 .before .before .before .before .before .before .before in
+    let p14 = p8 .before .before .before .before .before .before in
+    let start = p14 .before .before .before .before .before .before .before in
     let S = start .args in
-    let t = tableOf (now (S .ids)) (now (S .tats)) in
-    let told = p8 .answer .ensures ∙ ap (λ (x : Command). answer (S .session .stage) x t) (p13 .ended .ensures) in
-    let σ = kept (stateOf (S .session) (now (S .line)) (now (S .ids)) (now (S .tats))) (now (S .rest)) in
+    let t = tableOf (now (S .ids)) (now (S .tats)) (now (S .newest)) in
+    let told = p8 .answer .ensures ∙ ap (λ (x : Command). answer (S .session .stage) x t) (p14 .ended .ensures) in
+    let σ = kept (stateOf (S .session) (now (S .line)) t) (now (S .rest)) in
     ended-moved σ (p8 .answer .result) told (start .pre .0 .bounded)
     (omega (arith, start .pre .0 .line-enough, same-length c))
     (lent-as (same-length-2 c) (same-length-3 c) (start .pre .1 .0)) (c .before .before .put .ensures)

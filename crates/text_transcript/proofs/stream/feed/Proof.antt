@@ -5,6 +5,7 @@ use Prim.Native.Nat.{_-_}
 use mathlib.Core.Path.{_≡_, refl, _∙_}
 use lib.ListN.{length}
 use denote.Ref.{now}
+use Rattle.table_gcra.specs.Table.{tableOf}
 use Rattle.text_transcript.specs.Running.{stateOf}
 use Rattle.text_session.proofs.LineEnds.{end-within}
 use Rattle.text_transcript.proofs.Feeding.{Going, going-room, going-next, going-end}
@@ -13,10 +14,12 @@ use Rattle.text_transcript.proofs.stream.feed.Statement.{statement}
 use Rattle.text_transcript.proofs.stream.feed.Tie as tie
 
 abbrev Inv-loop : tie.InvT-loop
-Inv-loop piece line₀ ids₀ tats₀ out₀ at s₀ w₀ i₀ line ids tats out s w i = (Going (stateOf s₀ line₀ ids₀ tats₀) piece out₀ at s line ids tats out w i) × ((length line ≡ length line₀) × ((length ids ≡ length ids₀) × (length tats ≡ length tats₀)))
+Inv-loop piece line₀ ids₀ tats₀ newest₀ out₀ at s₀ w₀ i₀ line ids tats newest out s w i =
+    (Going (stateOf s₀ line₀ (tableOf ids₀ tats₀ newest₀)) piece out₀ at s line (tableOf ids tats newest) out w i)
+    × ((length line ≡ length line₀) × ((length ids ≡ length ids₀) × (length tats ≡ length tats₀)))
 
 abbrev μ-loop : tie.MeasureT-loop
-μ-loop piece line₀ ids₀ tats₀ out₀ at s₀ w₀ i₀ line ids tats out s w i = length piece - i
+μ-loop piece line₀ ids₀ tats₀ newest₀ out₀ at s₀ w₀ i₀ line ids tats newest out s w i = length piece - i
 
 loop-holds : tie.Need-loop-holds Inv-loop μ-loop
 loop-holds c =
@@ -52,16 +55,25 @@ part-end-line-end c = omega arith
 
 end-line-requires : tie.Need-end-line-requires Inv-loop μ-loop
 end-line-requires c κs =
-    let p5 = c .before .before .before .before .before in
-    let p7 = p5 .before .before in
-    let start = p7 .before .before .before .before .before .before in
-    let g = p7 .loop .inv .0 in
-    (g .ready, (g .lent, going-room g (p5 .before .find .ensures) (p5 .if1 .left) (start .pre .1 .1)))
+    let p6 = c .before .before .before .before .before .before in
+    let p8 = p6 .before .before in
+    let start = p8 .before .before .before .before .before .before in
+    let g = p8 .loop .inv .0 in
+    (g .ready, (g .lent, going-room g (p6 .before .find .ensures) (p6 .if1 .left) (start .pre .1 .1)))
+
+-- where the test found an LF, of a line that has been answered
+abbrev ends : tie.After-end-line Inv-loop μ-loop → tie.Else1 Inv-loop μ-loop
+ends c = c .before .before .before .before .before .before .before
+
+add-i : tie.Need-add-i Inv-loop μ-loop
+add-i c =
+    let test = ends (c .before .before .before .before .before .before .before .before .before) in
+    omega (arith, test .if1 .left)
 
 loop-less : tie.Need-loop-less Inv-loop μ-loop
 loop-less c =
-    let p15 = c .before .before .before .before .before .before .before .before .before .before .before .before .before .before .before in
-    omega (arith, p15 .if1 .left, p15 .before .find .ensures)
+    let test = ends (c .before .before .before .before .before .before .before .before .before) in
+    omega (arith, test .if1 .left, test .before .find .ensures)
 
 loop-again : tie.Need-loop-again Inv-loop μ-loop
 loop-again c =
@@ -69,10 +81,10 @@ loop-again c =
     let p6 = p4 .before .before in
     let p8 = p6 .before .before in
     let p9 = p8 .before in
-    let p15 = p9 .before .before .before .before .before .before in
-    let p16 = p15 .before in
-    let g = p16 .before .loop .inv in (
-      going-next (g .0) (p16 .find .ensures) (p15 .if1 .left) (p9 .end-line .ensures),
+    let test = ends p9 in
+    let found = test .before in
+    let g = found .before .loop .inv in (
+      going-next (g .0) (found .find .ensures) (test .if1 .left) (p9 .end-line .ensures),
       (p8 .line2 .given ∙ g .1 .0, (p6 .ids .given ∙ g .1 .1 .0, p4 .tats .given ∙ g .1 .1 .1)),
     )
 
@@ -111,7 +123,7 @@ feed-spec =
     part-end-line-start
     part-end-line-end
     end-line-requires
-    (λ c. search needs)
+    add-i
     loop-less
     loop-again
     same-length

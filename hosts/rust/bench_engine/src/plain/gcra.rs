@@ -3,16 +3,12 @@
 use super::search::Search;
 use super::{admit, check, full, price, refuse, throttle};
 use crate::call::{Answer, Ask, Plan};
+use crate::table::Table;
 
-pub fn acquire<S: Search>(
-    plan: &Plan,
-    ids: &mut [u32],
-    tats: &mut [u64],
-    ask: &Ask,
-    out: &mut Answer,
-) {
+pub fn acquire<S: Search>(plan: &Plan, table: &mut Table, ask: &Ask, out: &mut Answer) {
+    let (ids, tats) = (&mut table.ids[..], &mut table.records[..]);
     let slots = (ids.len() == tats.len()).then_some(ids.len());
-    if let Some(number) = check(plan, slots, ask) {
+    if let Some(number) = check(plan, slots, table.newest, ask) {
         return refuse(number, ask, out);
     }
     let now = ask.moment * plan.limit as u64;
@@ -33,5 +29,6 @@ pub fn acquire<S: Search>(
     }
     ids[slot] = ask.subscriber;
     tats[slot] = next;
+    table.newest = ask.moment;
     admit(plan, ask, next - now, out);
 }

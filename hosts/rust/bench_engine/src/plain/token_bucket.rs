@@ -3,17 +3,13 @@
 use super::search::Search;
 use super::{admit, check, full, price, refuse, throttle};
 use crate::call::{Answer, Ask, Plan};
+use crate::table::Table;
 
-pub fn acquire<S: Search>(
-    plan: &Plan,
-    ids: &mut [u32],
-    levels: &mut [u64],
-    lasts: &mut [u64],
-    ask: &Ask,
-    out: &mut Answer,
-) {
+pub fn acquire<S: Search>(plan: &Plan, table: &mut Table, ask: &Ask, out: &mut Answer) {
+    let ids = &mut table.ids[..];
+    let (levels, lasts) = (&mut table.records[..], &mut table.lasts[..]);
     let equal = ids.len() == levels.len() && ids.len() == lasts.len();
-    if let Some(number) = check(plan, equal.then_some(ids.len()), ask) {
+    if let Some(number) = check(plan, equal.then_some(ids.len()), table.newest, ask) {
         return refuse(number, ask, out);
     }
     let (limit, full) = (plan.limit as u64, full(plan));
@@ -38,5 +34,6 @@ pub fn acquire<S: Search>(
     ids[slot] = ask.subscriber;
     levels[slot] = level - price;
     lasts[slot] = ask.moment;
+    table.newest = ask.moment;
     admit(plan, ask, full - (level - price), out);
 }

@@ -15,6 +15,8 @@ pub struct Gate {
     burst: u64,
     subscribers: Vec<u64>,
     tats: Vec<u64>,
+    /// The newest moment at which anything was admitted.
+    newest: u64,
 }
 
 impl Gate {
@@ -33,6 +35,7 @@ impl Gate {
             burst,
             subscribers: vec![0; slots as usize],
             tats: vec![0; slots as usize],
+            newest: 0,
         })
     }
 
@@ -40,6 +43,9 @@ impl Gate {
         let refused = |number| [number, subscriber, 0, 0, 0];
         if moment > LAST_MOMENT {
             return refused(3);
+        }
+        if moment < self.newest {
+            return refused(11);
         }
         if subscriber == 0 {
             return refused(4);
@@ -68,6 +74,7 @@ impl Gate {
         }
         self.subscribers[slot] = subscriber;
         self.tats[slot] = next;
+        self.newest = moment;
         self.answer(0, subscriber, moment, next - now, 0)
     }
 

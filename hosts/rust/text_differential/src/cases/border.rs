@@ -41,8 +41,8 @@ fn cut(input: Vec<u8>, border: usize) -> Case {
 }
 
 fn start(rng: &mut Rng) -> Vec<u8> {
-    // a burst that drains in a second, or in 27 years
-    let (period, burst) = rng.pick(&[(1000, 10), (86_400_000, 100_000)]);
+    // a burst that drains in a second, in five minutes, or in 27 years
+    let (period, burst) = rng.pick(&[(1000, 10), (1_000_000, 3), (86_400_000, 100_000)]);
     plan(&Terms {
         slots: rng.from(1, 40),
         limit: 10,

@@ -1,5 +1,5 @@
-//! Runs under one plan: a clock that mostly creeps, few or many subscribers for the slots, and costs that keep slots busy,
-//! so that waits, refilling, takeover of free slots and a full table all occur again and again.
+//! Runs under one plan: a clock that mostly creeps and in some falls, few or many subscribers for the slots, and costs that
+//! keep slots busy, so that waits, refilling, takeover of free slots and a full table all occur again and again.
 
 use super::Case;
 use crate::program::Feed;
@@ -7,6 +7,7 @@ use crate::rng::Rng;
 use crate::text::{ask, plan, Terms};
 
 const LAST: u64 = (1 << 42) - 1;
+const HOUR: u64 = 3_600_000;
 
 pub struct Run {
     terms: Terms,
@@ -14,7 +15,9 @@ pub struct Run {
     /// Numbers of subscribers, this far apart.
     stride: u64,
     falls: bool,
+    /// What the clock shows, and the latest that it showed.
     moment: u64,
+    latest: u64,
     /// In how many milliseconds a whole burst drains.
     drain: u64,
     /// The longest ordinary step of the clock.
@@ -75,6 +78,7 @@ impl Run {
                 1 => rng.of_any_size(LAST),
                 _ => LAST - rng.below(drain.clamp(1, LAST)),
             },
+            latest: 0,
             drain,
             pace: rng.pick(&[1, share / 8, share / 2, share, 2 * share]),
         }
@@ -122,9 +126,21 @@ impl Run {
             _ => rng.from(0, self.pace),
         };
         self.moment = (self.moment + step).min(LAST);
-        if self.falls && rng.once_in(12) {
+        self.latest = self.latest.max(self.moment);
+        if self.falls {
+            self.put_back(rng);
+        }
+    }
+
+    /// Now and then the clock is put back, and some lines later it is put right.
+    fn put_back(&mut self, rng: &mut Rng) {
+        if self.moment == self.latest && rng.once_in(24) {
             let back = rng.pick(&[1, self.pace, self.drain]).max(1);
-            self.moment = self.moment.saturating_sub(rng.from(1, back));
+            let some = rng.from(1, back);
+            let back = rng.pick(&[1, some, some, HOUR, self.moment]);
+            self.moment = self.moment.saturating_sub(back);
+        } else if rng.once_in(8) {
+            self.moment = self.latest;
         }
     }
 }

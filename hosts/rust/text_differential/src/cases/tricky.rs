@@ -1,4 +1,5 @@
-//! Lines that are put together from fields and ends of which many are just not allowed, after a good plan.
+//! Lines that are put together from fields and ends of which many are just not allowed, after a good plan. The moments mostly
+//! rise, so that asks get further than 11.
 
 use super::Case;
 use crate::rng::Rng;
@@ -67,6 +68,8 @@ const WORDS: [&str; 12] = [
     "plans",
     "\u{feff}ask",
 ];
+/// The usual ones: each line takes one of two, and after some lines a later two.
+const MOMENTS: [&str; 7] = ["1000", "1333", "1334", "1999", "2000", "2001", "9000"];
 const TABS: [&str; 6] = ["\t\t", " ", "", "\t ", "\x0b", ","];
 const ENDS: [&str; 8] = [
     "\r\n", "\t\n", " \n", "\0\n", "\n\n", "\n\r", "\x0c\n", "\n\t",
@@ -97,8 +100,8 @@ pub fn one(rng: &mut Rng) -> Case {
         burst: 2,
     };
     let mut text = plan(&terms);
-    for _ in 0..rng.from(1, 40) {
-        text.extend(line(rng).bytes());
+    for place in 0..rng.from(1, 40) as usize {
+        text.extend(line(rng, place).bytes());
     }
     if rng.once_in(4) {
         text.pop();
@@ -106,13 +109,13 @@ pub fn one(rng: &mut Rng) -> Case {
     Case::whole(text)
 }
 
-fn line(rng: &mut Rng) -> String {
+fn line(rng: &mut Rng, place: usize) -> String {
     let word = usually(rng, "ask", &WORDS);
     let mut line = word.to_string();
     let usual: [&[&str]; 4] = [
-        &["1000", "1333", "1334", "1999", "2000", "2001", "9000"],
-        &["1", "7", "8", "9", "4294967295"],
-        &["1", "1", "2", "2", "3"],
+        &MOMENTS[place / 7..][..2],
+        &["0", "1", "7", "7", "8", "8", "9", "4294967295"],
+        &["0", "1", "1", "1", "2", "2", "2", "3"],
         &["0", "1", "2"],
     ];
     let fields = match (word, rng.below(16)) {

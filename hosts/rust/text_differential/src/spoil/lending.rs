@@ -4,7 +4,7 @@ use super::{Fault, Spoil};
 use crate::lending::{Lending, SHORT_OUTPUT, SHORT_TABLE, WRITTEN};
 use crate::text::begins_a_run;
 
-pub const FAULTS: [Fault; 16] = [
+pub const FAULTS: [Fault; 18] = [
     (
         "count-short",
         "a written text is one byte too short by its count",
@@ -46,18 +46,23 @@ pub const FAULTS: [Fault; 16] = [
         Spoil::Lends(tat_late),
     ),
     (
+        "newest-late",
+        "the newest moment is one too late",
+        Spoil::Lends(newest_late),
+    ),
+    (
         "beyond-cleared",
         "slot 1023 is cleared, though the plan has fewer slots",
         Spoil::Lends(beyond_cleared),
     ),
     (
         "refused-clears",
-        "a refused first line clears a slot",
+        "a refused first line makes the newest moment 0",
         Spoil::Lends(refused_clears),
     ),
     (
         "short-clears",
-        "columns that are too short are cleared",
+        "the newest moment is made 0 though the columns are too short",
         Spoil::Lends(short_clears),
     ),
     (
@@ -69,6 +74,11 @@ pub const FAULTS: [Fault; 16] = [
         "outside-tats",
         "the word after the TATs is written",
         Spoil::Lends(|l, _| l.table.columns[0].overrun(0)),
+    ),
+    (
+        "outside-newest",
+        "the word after the newest moment is written",
+        Spoil::Lends(|l, _| l.table.newest.overrun(0)),
     ),
     (
         "outside-out",
@@ -150,6 +160,12 @@ fn tat_late(lending: &mut Lending, text: &[u8]) {
     }
 }
 
+fn newest_late(lending: &mut Lending, text: &[u8]) {
+    if is(lending, WRITTEN) && begins_a_run(text) {
+        lending.table.newest[0] += 1;
+    }
+}
+
 fn beyond_cleared(lending: &mut Lending, text: &[u8]) {
     if is(lending, WRITTEN) && begins_a_run(text) {
         lending.table.ids.inside_mut()[1023] = 0;
@@ -158,12 +174,12 @@ fn beyond_cleared(lending: &mut Lending, text: &[u8]) {
 
 fn refused_clears(lending: &mut Lending, text: &[u8]) {
     if is(lending, WRITTEN) && !begins_a_run(text) {
-        lending.table.ids.inside_mut()[0] = 0;
+        lending.table.newest[0] = 0;
     }
 }
 
 fn short_clears(lending: &mut Lending, _: &[u8]) {
     if is(lending, SHORT_TABLE) {
-        lending.table.ids.inside_mut().fill(0);
+        lending.table.newest[0] = 0;
     }
 }

@@ -2,7 +2,7 @@
 
 use super::{reading, writing, Fault, Spoil};
 
-pub const FAULTS: [Fault; 27] = [
+pub const FAULTS: [Fault; 30] = [
     (
         "wait-short",
         "the wait under 8 is one too short",
@@ -22,6 +22,21 @@ pub const FAULTS: [Fault; 27] = [
         "late-unread",
         "a moment above its limit gets 10",
         Spoil::Writes(writing::late_unread),
+    ),
+    (
+        "equal-early",
+        "an ask at the newest moment itself gets 11",
+        Spoil::Writes(writing::equal_early),
+    ),
+    (
+        "early-last",
+        "11 after 4",
+        Spoil::Writes(writing::early_last),
+    ),
+    (
+        "corrupt-for-early",
+        "7 in place of 11, by the second implementation too",
+        Spoil::BothWrite(writing::corrupt_for_early),
     ),
     (
         "ten-dropped",

@@ -29,7 +29,7 @@ pub fn swapped(lines: &mut Lines, _: &[u8]) {
 }
 
 pub fn nobody(lines: &mut Lines, _: &[u8]) {
-    let refusals = ["3", "5", "6", "7", "9"];
+    let refusals = ["3", "5", "6", "9", "11"];
     each(lines, &refusals, |fields| fields[1] = "0".to_string());
 }
 
@@ -39,6 +39,34 @@ pub fn late_unread(lines: &mut Lines, _: &[u8]) {
             *line = TEN.to_vec();
         }
     }
+}
+
+/// In a run, line n of the output answers line n of the input.
+pub fn equal_early(lines: &mut Lines, input: &[u8]) {
+    let field = |line: &[u8]| line.split(|&byte| byte == b'\t').nth(1).map(<[u8]>::to_vec);
+    let mut newest = Some(b"0".to_vec());
+    for (answer, ask) in lines.iter_mut().zip(text::lines(input)).skip(1) {
+        if !answer.starts_with(b"0\t") {
+            continue;
+        }
+        let (moment, subscriber) = (field(ask), field(answer).unwrap_or_default());
+        if moment == newest {
+            *answer = [b"11\t", &subscriber[..], b"\t0\t0\t0\n"].concat();
+        }
+        newest = moment;
+    }
+}
+
+pub fn early_last(lines: &mut Lines, _: &[u8]) {
+    each(lines, &["11"], |fields| {
+        if fields[1] == "0" {
+            fields[0] = "4".to_string();
+        }
+    });
+}
+
+pub fn corrupt_for_early(lines: &mut Lines, _: &[u8]) {
+    each(lines, &["11"], |fields| fields[0] = "7".to_string());
 }
 
 pub fn ten_dropped(lines: &mut Lines, _: &[u8]) {

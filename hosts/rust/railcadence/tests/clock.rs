@@ -1,0 +1,111 @@
+//! A clock that goes back: both engines refuse a moment before the newest admission, and change nothing.
+
+use railcadence::{Answer, Gcra, Outcome, Plan, Reason, Report, TokenBucket};
+use std::fmt::Debug;
+
+const PLAN: Plan = Plan::new(3, 1000, 2);
+const LAST_MOMENT: u64 = (1 << 42) - 1;
+const EARLY: Outcome = Outcome::Refused(Reason::EarlyMoment);
+
+/// A table of two slots, of either engine.
+trait Table: Clone + Debug + PartialEq {
+    fn stored(newest: u64) -> Self;
+    fn newest(&self) -> u64;
+    fn acquire(&mut self, moment: u64, subscriber: u32, cost: u32) -> Answer;
+    fn peek(&self, moment: u64, subscriber: u32) -> Report;
+    fn clear(&mut self) -> Result<(), Reason>;
+}
+
+macro_rules! table {
+    ($engine:ident, $($column:expr),*) => {
+        impl Table for $engine {
+            fn stored(newest: u64) -> $engine {
+                $engine::from_columns($($column),*, newest)
+            }
+            fn newest(&self) -> u64 {
+                self.newest()
+            }
+            fn acquire(&mut self, moment: u64, subscriber: u32, cost: u32) -> Answer {
+                self.acquire(&PLAN, moment, subscriber, cost)
+            }
+            fn peek(&self, moment: u64, subscriber: u32) -> Report {
+                self.peek(&PLAN, moment, subscriber)
+            }
+            fn clear(&mut self) -> Result<(), Reason> {
+                self.clear()
+            }
+        }
+    };
+}
+
+table!(Gcra, vec![0; 2], vec![0; 2]);
+table!(TokenBucket, vec![0; 2], vec![0; 2], vec![0; 2]);
+
+/// Whoever asks gets 11, and before 4, 5 and 6.
+fn early<T: Table>() {
+    let mut table = T::stored(0);
+    assert!(table.acquire(1000, 7, 1).is_admitted());
+    let before = table.clone();
+    for (subscriber, cost) in [(7, 1), (8, 1), (0, 1), (7, 0), (7, 3), (0, 0)] {
+        let numbers = [11, u64::from(subscriber), 0, 0, 0];
+        for moment in [0, 999] {
+            let asked = table.acquire(moment, subscriber, cost);
+            assert_eq!((asked.outcome, asked.to_numbers()), (EARLY, numbers));
+            let seen = table.peek(moment, subscriber);
+            assert_eq!(seen.balance, Err(Reason::EarlyMoment));
+            assert_eq!(seen.to_numbers(), numbers);
+        }
+    }
+    assert_eq!(table, before);
+}
+
+#[test]
+fn a_moment_before_the_newest_admission_is_refused() {
+    early::<Gcra>();
+    early::<TokenBucket>();
+}
+
+/// An equal moment passes; a wait and a peek do not move the newest moment, another admission does.
+fn moved<T: Table>() {
+    let mut table = T::stored(0);
+    assert!(table.acquire(1000, 7, 1).is_admitted());
+    assert!(table.acquire(1000, 8, 2).is_admitted());
+    let waiting = table.acquire(1001, 8, 1).to_numbers();
+    assert_eq!(waiting, [8, 8, 0, 1667, 333]);
+    assert_eq!(table.peek(1001, 7).to_numbers(), [0, 7, 1, 1334, 0]);
+    assert_eq!(table.newest(), 1000);
+    assert!(table.acquire(1334, 8, 1).is_admitted());
+    assert_eq!(table.newest(), 1334);
+    assert_eq!(table.acquire(1333, 7, 1).outcome, EARLY);
+}
+
+#[test]
+fn only_an_admission_moves_the_newest_moment() {
+    moved::<Gcra>();
+    moved::<TokenBucket>();
+}
+
+/// One that is stored beyond the clock refuses every moment within it; 3 is told before 11.
+fn beyond<T: Table>() {
+    for newest in [LAST_MOMENT + 1, u64::MAX] {
+        let mut table = T::stored(newest);
+        assert_eq!(table.acquire(LAST_MOMENT, 7, 1).outcome, EARLY);
+        let seen = table.peek(LAST_MOMENT, 7).balance;
+        assert_eq!(seen, Err(Reason::EarlyMoment));
+        let late = table.acquire(LAST_MOMENT + 1, 7, 1).outcome;
+        assert_eq!(late, Outcome::Refused(Reason::LateMoment));
+        assert_eq!(table, T::stored(newest));
+        assert_eq!(table.clear(), Ok(()));
+        assert_eq!(table.newest(), 0);
+        assert!(table.acquire(0, 7, 1).is_admitted());
+    }
+    let mut table = T::stored(LAST_MOMENT);
+    assert_eq!(table.acquire(LAST_MOMENT - 1, 7, 1).outcome, EARLY);
+    assert!(table.acquire(LAST_MOMENT, 7, 1).is_admitted());
+}
+
+#[test]
+fn a_stored_newest_moment_is_kept_until_a_clear() {
+    beyond::<Gcra>();
+    beyond::<TokenBucket>();
+}
