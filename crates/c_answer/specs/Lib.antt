@@ -1,2 +1,3 @@
 -- What a reader must believe of the numbers that a host receives.
 pub mod Five
+pub mod Laws

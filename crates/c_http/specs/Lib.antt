@@ -1,2 +1,3 @@
 -- What a reader must believe of the fields' export.
 pub mod Told
+pub mod Laws

@@ -3,8 +3,7 @@ ghost use mathlib.Core.Path.{_≡_};
 ghost use Rattle.table_gcra.specs.Table.{tableOf};
 ghost use Rattle.text_transcript.specs.Whole.{transcribed, lentOf};
 ghost use Rattle.c_text.specs.Text.{two};
-use text_transcript::whole;
-use text_transcript::whole::Transcribed;
+use text_transcript::Transcribed;
 
 // The result and how many bytes were written.
 fn two(transcribed: Transcribed) -> [u64; 2]
@@ -33,6 +32,6 @@ pub extern "C" fn railcadence_transcribe(
         ≡ transcribed (now (text .entry))
         (tableOf (now (ids .entry)) (now (tats .entry)) (now (newest .entry))) (now (out .entry)) .left ⌝ }
 {
-    let transcribed = whole::transcribe(text, ids, tats, newest, out);
+    let transcribed = text_transcript::transcribe(text, ids, tats, newest, out);
     *result = two(transcribed);
 }

@@ -2,64 +2,47 @@
 -- Assumes nothing.
 use mathlib.Core.Path.{_≡_, refl, sym}
 use mathlib.Core.Bool.{true, false, false≢true}
-use Prim.Native.Nat.{ℕ, _+_, _*_, _≤_, _<_}
+use Prim.Native.Nat.{ℕ, _*_, _≤_}
 use native.Mathlib.Nat.{lt-of-not-le}
 use native.Mathlib.Omega.{arith}
 use lib.Dec.{eqb}
+use Rattle.ticks.specs.Grains.{planOk}
 use Rattle.rate.specs.Answer.{answered}
 use Rattle.rate.specs.Decision.{Verdict, reported}
 use Rattle.rate.specs.Account.{Account}
-use Rattle.ticks.specs.Grains.{planOk, onClock}
+use Rattle.rate.specs.Balanced.{Balanced}
 use Rattle.rate.proofs.Answers.{answered-left}
 use Rattle.rate.proofs.Cases.{report-sound}
-use Rattle.rate.proofs.Balanced.{Balanced}
 use Rattle.rate.proofs.Left.{reported-left-most, admitted-left-most}
 use Rattle.rate.proofs.Look.{throttled-left}
 use Rattle.table.specs.Request.{Query, Request}
 use Rattle.table.specs.Rule.{ruleOf}
 use Rattle.table.specs.Slots.{Columns}
 use Rattle.table.specs.Calls.{acquire, peek}
-use Rattle.table.proofs.Checks.{bad-plan, bad-table, late-moment, early-moment, no-subscriber}
-use Rattle.law_calls.proofs.Numbers.{Ground, throttled, admitted, admitted-new, grounds}
+use Rattle.table.specs.Passed.{bad-plan, bad-table, late-moment, early-moment, no-subscriber}
 use Rattle.table.proofs.Outcomes.{waits, admits, admits-new}
+use Rattle.law_calls.specs.Grounds.{Ground, throttled, admitted, admitted-new}
+use Rattle.law_calls.specs.PeekGrounds.{PeekGround, stopped, corrupt-record, known, unknown}
+use Rattle.law_calls.proofs.Numbers.{grounds}
 use Rattle.law_calls.proofs.Peek.{peek-own, peek-unknown}
-use Rattle.law_calls.proofs.PeekNumbers.{PeekGround, stopped, corrupt-record, known, unknown, peek-grounds}
-use Rattle.law_calls.proofs.Wait.{LeastWait, later, call-least-wait}
-use Rattle.http.specs.declared.Fields.{Fields}
-use Rattle.http.specs.Fields.{fieldsOf}
-use Rattle.http.proofs.Least.{Covers, retry-least, remaining-most}
-
-module _ {C P R : Type 0} (A : Account P R) (K : Columns C R) (r : Request P) (c : C) where
-  -- the fields told of the answer to a request
-  abbrev pub told : Fields
-  told = fieldsOf (A .plan (r .query .setting)) (r .query .moment) (acquire (ruleOf A) K r c .answer)
-
-  -- what a Retry-After of so many seconds is worth
-  pub record Kept (delay : ℕ) : Type 0 where
-    pub positive : 1 ≤ delay
-    -- with the table untouched, a client that waits that long or longer is admitted
-    pub enough :
-        (k : ℕ) → delay * 1000 ≤ k → onClock (r .query .moment + k) ≡ true → acquire (ruleOf A) K (later k r) c .answer .number ≡ 0
-    -- and one that waits fewer whole seconds must wait again
-    pub short :
-        (s : ℕ) → s < delay → onClock (r .query .moment + s * 1000) ≡ true → acquire (ruleOf A) K (later (s * 1000) r) c .answer .number ≡ 8
+use Rattle.law_calls.proofs.PeekNumbers.{peek-grounds}
+use Rattle.law_calls.proofs.Wait.{call-least-wait}
+use Rattle.http.specs.Laws.{told, toldOfLook, Kept}
+use Rattle.http.proofs.Least.{retry-least, remaining-most}
 
 module _ {C P R : Type 0} {A : Account P R} (L : Balanced A) (K : Columns C R) (r : Request P) (c : C) where
   pub within-plan : Ground A K r c 8 → planOk (A .plan (r .query .setting)) ≡ true
   within-plan (throttled p i o s a) = L .ok-plan _ (p .asked .plan)
 
-  kept : {delay wait : ℕ} → Covers delay wait → LeastWait A K r c wait → Kept A K r c delay
-  kept {delay} {wait} covers least =
-      record {
-        positive = lt-of-not-le (λ z. let none = covers 0 .0 z in omega (arith, least .positive));
-        enough = λ k h t. least .enough k (omega (arith, covers delay .0 (omega arith))) t;
-        short = λ s h t. least .short (s * 1000) (lt-of-not-le (λ z. let most = covers s .1 z in omega arith)) t;
-      }
-
   pub retry-kept : acquire (ruleOf A) K r c .answer .number ≡ 8 → Kept A K r c (told A K r c .«retry_after»)
   retry-kept e =
-      let plan = within-plan (grounds A K r c L e) in
-      kept (retry-least _ _ _ plan e) (call-least-wait L K r c e)
+      let covers = retry-least _ _ _ (within-plan (grounds A K r c L e)) e in
+      let least = call-least-wait L K r c e in
+      record {
+        positive = lt-of-not-le (λ z. let none = covers 0 .0 z in omega (arith, least .positive));
+        enough = λ k h t. least .enough k (omega (arith, covers (told A K r c .«retry_after») .0 (omega arith))) t;
+        short = λ s h t. least .short (s * 1000) (lt-of-not-le (λ z. let most = covers s .1 z in omega arith)) t;
+      }
 
   -- no more is left than the burst
   left-within :
@@ -101,11 +84,8 @@ module _ {C P R : Type 0} {A : Account P R} (L : Balanced A) (K : Columns C R) (
   left-reported (unknown a u) =
       rw (peek-unknown L K q c a u, answered-left (q .subscriber) (record { number = 0; left = A .plan (q .setting) .burst; reset = q .moment; wait = 0 })) (omega arith)
 
-  -- the fields told of the answer to a look
-  abbrev pub told-of-look : Fields
-  told-of-look = fieldsOf (A .plan (q .setting)) (q .moment) (peek (ruleOf A) K q c .answer)
-
-  pub look-remaining-within : told-of-look .remaining ≤ told-of-look .quota
+  -- no more remains than the quota
+  pub look-remaining-within : toldOfLook A K q c .remaining ≤ toldOfLook A K q c .quota
   look-remaining-within =
       remaining-most _ _ _ (λ e. left-reported (peek-grounds A K q c L e))
       (λ e. absurd (false≢true (sym (never-8 (peek-grounds A K q c L e)))))

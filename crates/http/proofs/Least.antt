@@ -8,16 +8,14 @@ use Prim.Native.Nat.{ℕ, _-_, _*_, _≤_}
 use native.Mathlib.Omega.{arith}
 use lib.Dec.{eqb}
 use borrow.Author.Tests.{eq-eqb, eqb-true}
-use Rattle.rate.specs.declared.answer.Numbers.{Numbers}
 use Rattle.ticks.specs.declared.plan.Plan.{Plan}
 use Rattle.ticks.specs.Grains.{capacity, divUp, planOk}
+use Rattle.ticks.proofs.Limits.{capacity-is}
 use Rattle.ticks.proofs.Rounding.{divUp-least}
+use Rattle.rate.specs.declared.answer.Numbers.{Numbers}
 use Rattle.http.specs.Fields.{seconds, windowOf, silent, planned, reported, fieldsOf}
+use Rattle.http.specs.Laws.{Covers}
 use Rattle.http.proofs.Cases.{bad-plan, admitted, throttled, refused}
-
--- so many seconds are the least that cover a time in milliseconds
-abbrev pub Covers : ℕ → ℕ → Type 0
-Covers told span = (k : ℕ) → (told ≤ k → span ≤ k * 1000) × (span ≤ k * 1000 → told ≤ k)
 
 pub seconds-least : (span : ℕ) → Covers (seconds span) span
 unfolding seconds
@@ -25,12 +23,14 @@ seconds-least span k = divUp-least span 1000 k (omega arith)
 
 -- the window is the least whole seconds in which a whole burst is earned
 pub window-least :
-    (p : Plan) → 1 ≤ p .limit → (k : ℕ) → (windowOf p ≤ k → capacity p ≤ k * 1000 * p .limit) × (capacity p ≤ k * 1000 * p .limit → windowOf p ≤ k)
+    (p : Plan) → 1 ≤ p .limit → (k : ℕ) →
+    (windowOf p ≤ k → p .period * p .burst ≤ k * 1000 * p .limit) × (p .period * p .burst ≤ k * 1000 * p .limit → windowOf p ≤ k)
 unfolding windowOf
 window-least p rate k =
     let drained = divUp-least (capacity p) (p .limit) (k * 1000) rate in
     let told = seconds-least (divUp (capacity p) (p .limit)) k in
-    (λ h. drained .0 (told .0 h), λ h. told .1 (drained .1 h))
+    let full = capacity-is p in
+    (λ h. omega (arith, full, drained .0 (told .0 h)), λ h. told .1 (drained .1 (omega (arith, full, h))))
 
 module _ (p : Plan) (at : ℕ) (a : Numbers) where
   -- Retry-After covers the wait, and no fewer seconds do

@@ -4,3 +4,4 @@ pub mod Least
 pub mod Client
 pub mod Renewed
 pub mod Worked
+pub mod Laws

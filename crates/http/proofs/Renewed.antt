@@ -4,36 +4,30 @@
 use mathlib.Core.Path.{_≡_}
 use mathlib.Core.Logic.{_⊎_, inl, inr}
 use mathlib.Core.Bool.{true}
-use Prim.Native.Nat.{ℕ, _+_, _-_, _*_, _≤_, _<_}
+use Prim.Native.Nat.{ℕ, _+_, _-_, _*_, _<_}
 use native.Mathlib.Nat.{lt-of-not-le}
 use native.Mathlib.Omega.{arith}
+use Rattle.ticks.specs.Grains.{planOk}
 use Rattle.rate.specs.Account.{Account}
-use Rattle.ticks.specs.Grains.{planOk, onClock}
-use Rattle.rate.proofs.Balanced.{Balanced}
+use Rattle.rate.specs.Balanced.{Balanced}
 use Rattle.table.specs.Request.{Query, Request}
 use Rattle.table.specs.Rule.{ruleOf}
 use Rattle.table.specs.Slots.{Columns, carries}
 use Rattle.table.specs.Calls.{acquire, peek}
-use Rattle.law_calls.proofs.Numbers.{Ground, admitted, admitted-new, grounds}
-use Rattle.law_calls.proofs.PeekNumbers.{PeekGround, known, unknown, peek-grounds}
-use Rattle.law_calls.proofs.Reset.{ResetMoment, wholeBurst, acquire-reset, peek-held-reset}
-use Rattle.table.proofs.Stored.{Stored}
-use Rattle.http.proofs.Client.{told, told-of-look, within-plan}
-use Rattle.http.proofs.Least.{Covers, reset-least}
+use Rattle.table.specs.Stored.{Stored}
+use Rattle.law_calls.specs.Grounds.{Ground, admitted, admitted-new}
+use Rattle.law_calls.specs.PeekGrounds.{PeekGround, known, unknown}
+use Rattle.law_calls.specs.Reset.{ResetMoment}
+use Rattle.law_calls.proofs.Numbers.{grounds}
+use Rattle.law_calls.proofs.PeekNumbers.{peek-grounds}
+use Rattle.law_calls.proofs.Reset.{acquire-reset, peek-held-reset}
+use Rattle.http.specs.Laws.{Covers, told, toldOfLook, Renewed}
+use Rattle.http.proofs.Client.{within-plan}
+use Rattle.http.proofs.Least.{reset-least}
 
 module _ {C P R : Type 0} (A : Account P R) (K : Columns C R) (q : Query P) (c : C) where
-  -- what a reset after so many seconds is worth, of the columns as the call left them
-  pub record Renewed (delay : ℕ) : Type 0 where
-    -- with the table untouched, a client that waits that long or longer is admitted with its whole burst
-    pub enough :
-        (k : ℕ) → delay * 1000 ≤ k → onClock (q .moment + k) ≡ true →
-        acquire (ruleOf A) K (wholeBurst A q (q .moment + k)) c .answer .number ≡ 0
-    -- and one that waits fewer whole seconds must wait
-    pub short :
-        (s : ℕ) → s < delay → onClock (q .moment + s * 1000) ≡ true →
-        acquire (ruleOf A) K (wholeBurst A q (q .moment + s * 1000)) c .answer .number ≡ 8
-
-  renewed : {delay reset : ℕ} → Covers delay (reset - q .moment) → ResetMoment A K q c reset → Renewed delay
+  -- the seconds that cover the time to the first moment at which the whole burst is admitted
+  renewed : {delay reset : ℕ} → Covers delay (reset - q .moment) → ResetMoment A K q c reset → Renewed A K q c delay
   renewed {delay} {reset} covers moment =
       record {
         enough = λ k h t.
@@ -69,6 +63,6 @@ module _ {C P R : Type 0} {A : Account P R} (L : Balanced A) (K : Columns C R) (
 
   pub look-reset-kept :
       (i : ℕ) → i < K .slots c → carries (K .ids c) (q .subscriber) i ≡ true → peek (ruleOf A) K q c .answer .number ≡ 0 →
-      Renewed A K q c (told-of-look L K q c .reset)
+      Renewed A K q c (toldOfLook A K q c .reset)
   look-reset-kept i within carried e =
       renewed A K q c (reset-least _ _ _ (plan-seen (peek-grounds A K q c L e)) (inl e)) (peek-held-reset L K q c i within carried e)

@@ -15,28 +15,13 @@ use Rattle.table.specs.Checks.{requestCheck}
 use Rattle.table.specs.Rule.{Rule}
 use Rattle.table.specs.Slots.{Columns}
 use Rattle.table.specs.Calls.{Step, slotFor, acquire, gate, toll}
-use Rattle.table.proofs.Checks.{Asked, Payable, Stopped, stops, stops-not-0, asked-or-stopped, asks, query-first, number-5, number-6}
+use Rattle.table.specs.Passed.{Asked, Payable, Stopped}
+use Rattle.table.proofs.Checks.{stops, stops-not-0, asked-or-stopped, asks, query-first, number-5, number-6}
 use Rattle.table.proofs.Outcomes.{stays, refused, full, own-answer, new-answer}
-use Rattle.table.proofs.Placing.{Own, Unknown, Vacant, Full, Placed, in-own, in-free, nowhere, placed}
-
--- the verdict on a record
-abbrev pub verdictOn : {P R : Type 0} → Rule P R → Request P → R → Verdict
-verdictOn U r held = U .judge (r .query .setting) (r .query .moment) held (r .cost) .verdict
+use Rattle.table.proofs.Placing.{Placed, in-own, in-free, nowhere, placed}
+use Rattle.law_calls.specs.Causes.{Cause, stopped, zero-cost, cost-above-most, on-own, on-fresh, table-full}
 
 module _ {C P R : Type 0} (U : Rule P R) (K : Columns C R) (r : Request P) (c : C) where
-  -- why an ask gets its number
-  pub data Cause : ℕ → Type 0 where
-    stopped : {n : ℕ} → Stopped (gate U K (r .query) c) n → Cause n
-    zero-cost : Asked (gate U K (r .query) c) → eqb (r .cost) 0 ≡ true → Cause 5
-    cost-above-most :
-        Asked (gate U K (r .query) c) → eqb (r .cost) 0 ≡ false → ltb (U .most (r .query .setting)) (r .cost) ≡ true → Cause 6
-    on-own :
-        {n : ℕ} → Payable (toll U K r c) → (i : ℕ) → Own K (r .query) c i → verdictOn U r (K .row c i) .number ≡ n → Cause n
-    on-fresh :
-        {n : ℕ} → Payable (toll U K r c) → (i : ℕ) → Unknown K (r .query) c → Vacant U K (r .query) c i →
-        verdictOn U r (U .fresh (r .query .setting) (r .query .moment)) .number ≡ n → Cause n
-    table-full : Payable (toll U K r c) → Unknown K (r .query) c → Full U K (r .query) c → Cause 9
-
   numbered :
       (v : Verdict) {n : ℕ} → acquire U K r c .answer ≡ answered (r .query .subscriber) v → v .number ≡ n →
       acquire U K r c .answer .number ≡ n
@@ -55,7 +40,7 @@ module _ {C P R : Type 0} (U : Rule P R) (K : Columns C R) (r : Request P) (c : 
   bare-of : {n : ℕ} → acquire U K r c ≡ stays r c (bare n) → acquire U K r c .answer .number ≡ n
   bare-of {n} e = numbered (bare n) (ap (λ (s : Step C). s .answer) e) (bare-number n)
 
-  pub causes : {n : ℕ} → Cause n → acquire U K r c .answer .number ≡ n
+  pub causes : {n : ℕ} → Cause U K r c n → acquire U K r c .answer .number ≡ n
   causes (stopped s) = bare-of (stays-stopped s)
   causes (zero-cost a z) = bare-of (checked (number-5 (toll U K r c) (asks (gate U K (r .query) c) a) z) refl)
   causes (cost-above-most a z b) = bare-of (checked (number-6 (toll U K r c) (asks (gate U K (r .query) c) a) z b) refl)
@@ -64,25 +49,25 @@ module _ {C P R : Type 0} (U : Rule P R) (K : Columns C R) (r : Request P) (c : 
   causes (table-full p u f) = bare-of (full U K r c p u f)
 
   -- there is always a cause
-  in-slot : Payable (toll U K r c) → Placed U K (r .query) c (slotFor U K (r .query) c) → (n : ℕ) × Cause n
+  in-slot : Payable (toll U K r c) → Placed U K (r .query) c (slotFor U K (r .query) c) → (n : ℕ) × Cause U K r c n
   in-slot p (in-own i o e) = (_, on-own p i o refl)
   in-slot p (in-free i u v e) = (_, on-fresh p i u v refl)
   in-slot p (nowhere u f e) = (9, table-full p u f)
 
-  paid : Asked (gate U K (r .query) c) → (n : ℕ) × Cause n
+  paid : Asked (gate U K (r .query) c) → (n : ℕ) × Cause U K r c n
   paid a = by (eqb (r .cost) 0) refl (ltb (U .most (r .query .setting)) (r .cost)) refl
     where
-      by : (z : Bool) → eqb (r .cost) 0 ≡ z → (b : Bool) → ltb (U .most (r .query .setting)) (r .cost) ≡ b → (n : ℕ) × Cause n
+      by : (z : Bool) → eqb (r .cost) 0 ≡ z → (b : Bool) → ltb (U .most (r .query .setting)) (r .cost) ≡ b → (n : ℕ) × Cause U K r c n
       by true ez b eb = (5, zero-cost a ez)
       by false ez true eb = (6, cost-above-most a ez eb)
       by false ez false eb = in-slot (record { asked = a; cost = ez; burst = eb }) (placed U K (r .query) c)
 
-  a-cause : (n : ℕ) × Cause n
+  a-cause : (n : ℕ) × Cause U K r c n
   a-cause = by (asked-or-stopped (gate U K (r .query) c))
     where
-      by : Asked (gate U K (r .query) c) ⊎ ((n : ℕ) × Stopped (gate U K (r .query) c) n) → (n : ℕ) × Cause n
+      by : Asked (gate U K (r .query) c) ⊎ ((n : ℕ) × Stopped (gate U K (r .query) c) n) → (n : ℕ) × Cause U K r c n
       by (inl a) = paid a
       by (inr s) = (s .0, stopped (s .1))
 
-  pub caused : {n : ℕ} → acquire U K r c .answer .number ≡ n → Cause n
-  caused e = let g = a-cause in subst (λ (k : ℕ). Cause k) (sym (causes (g .1)) ∙ e) (g .1)
+  pub caused : {n : ℕ} → acquire U K r c .answer .number ≡ n → Cause U K r c n
+  caused e = let g = a-cause in subst (λ (k : ℕ). Cause U K r c k) (sym (causes (g .1)) ∙ e) (g .1)

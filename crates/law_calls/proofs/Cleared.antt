@@ -11,19 +11,20 @@ use borrow.Author.Tests.{eqb-false, le-ltb}
 use Rattle.ticks.specs.Grains.{onClock}
 use Rattle.rate.specs.Decision.{bare}
 use Rattle.rate.specs.Account.{Account}
+use Rattle.rate.specs.Balanced.{Balanced}
 use Rattle.rate.proofs.Answers.{answered-number, bare-number, admitted-number}
-use Rattle.rate.proofs.Balanced.{Balanced}
 use Rattle.table.specs.Request.{Request}
 use Rattle.table.specs.Checks.{slotsOk}
-use Rattle.table.specs.Rule.{Rule, ruleOf}
-use Rattle.table.specs.Slots.{Columns, carries, vacant}
-use Rattle.table.specs.Calls.{Step, acquire, clear, gate, toll}
+use Rattle.table.specs.Rule.{Rule, ruleOf, admittedAt, owedAt, spentAt, freshAt}
+use Rattle.table.specs.Slots.{Columns}
+use Rattle.table.specs.Calls.{Step, acquire, clear, toll}
+use Rattle.table.specs.Passed.{Payable}
+use Rattle.table.specs.Places.{Unknown, Vacant}
+use Rattle.table.specs.Stored.{Stored}
 use Rattle.table.proofs.Cases.{clear-done, clear-unfit}
-use Rattle.table.proofs.Checks.{Payable, slots-least}
-use Rattle.table.proofs.Outcomes.{writes, admits-new, admittedAt, owedAt, spentAt, freshAt}
-use Rattle.table.proofs.Placing.{Unknown, Vacant}
+use Rattle.table.proofs.Checks.{slots-least}
+use Rattle.table.proofs.Outcomes.{writes, admits-new}
 use Rattle.table.proofs.Slots.{carries-other, vacant-empty}
-use Rattle.table.proofs.Stored.{Stored}
 
 module _ {C R : Type 0} (K : Columns C R) (c : C) where
   -- a clear that answers 0 has found a table, and has made it all zeros

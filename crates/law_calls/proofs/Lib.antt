@@ -8,4 +8,6 @@ pub mod PeekNumbers
 pub mod Newest
 pub mod Wait
 pub mod Reset
+pub mod Left
+pub mod Zeros
 pub mod Laws

@@ -6,31 +6,34 @@ use mathlib.Core.Logic.{_⊎_, inl, inr}
 use mathlib.Core.Bool.{Bool, true, false}
 use Prim.Native.Nat.{ℕ, _≤_, _<_}
 use native.Mathlib.Omega.{arith}
-use lib.Dec.{eqb}
 use borrow.Author.Tests.{ltb-true, lt-ltb, le-ltb}
-use Rattle.ticks.specs.Grains.{onClock, lastMoment}
+use Rattle.ticks.specs.Grains.{onClock}
 use Rattle.ticks.proofs.Limits.{on-clock}
 use Rattle.rate.specs.declared.answer.Numbers.{Numbers}
 use Rattle.rate.specs.Answer.{answered}
 use Rattle.rate.specs.Decision.{bare}
 use Rattle.rate.specs.Account.{Account}
+use Rattle.rate.specs.Balanced.{Balanced}
 use Rattle.rate.proofs.Answers.{answered-number, answered-left, answered-reset, answered-wait, bare-number, bare-left, bare-reset, bare-wait}
-use Rattle.rate.proofs.Balanced.{Balanced}
 use Rattle.table.specs.Request.{Query, Request, queryOf}
 use Rattle.table.specs.Checks.{slotsOk}
 use Rattle.table.specs.Rule.{Rule, ruleOf}
 use Rattle.table.specs.Slots.{Columns}
 use Rattle.table.specs.Calls.{Step, acquire, peek, clear, gate}
+use Rattle.table.specs.Passed.{Asked, Stopped, early-moment}
+use Rattle.table.specs.Stored.{Stored}
 use Rattle.table.proofs.Cases.{peek-keeps}
-use Rattle.table.proofs.Checks.{Asked, Stopped, early-moment, asked-or-stopped, asked-since}
-use Rattle.table.proofs.Stored.{Stored}
+use Rattle.table.proofs.Checks.{asked-or-stopped, asked-since}
 use Rattle.table.proofs.Writes.{admission-writes-one, denied-changes-nothing, newest-taken}
+use Rattle.law_calls.specs.Newest.{Early, Refusal, Written, BeyondClock, Locked}
+use Rattle.law_calls.specs.Grounds.{Ground, stopped}
+use Rattle.law_calls.specs.PeekGrounds as looks
+use Rattle.law_calls.specs.PeekGrounds.{PeekGround}
 use Rattle.law_calls.proofs.Causes.{stays-stopped}
 use Rattle.law_calls.proofs.Cleared.{cleared-newest, unfit-kept}
-use Rattle.law_calls.proofs.Numbers.{Ground, stopped, grounds}
+use Rattle.law_calls.proofs.Numbers.{grounds}
 use Rattle.law_calls.proofs.PeekCauses.{peek-stopped}
-use Rattle.law_calls.proofs.PeekNumbers as peeks
-use Rattle.law_calls.proofs.PeekNumbers.{PeekGround, peek-grounds, clear-0}
+use Rattle.law_calls.proofs.PeekNumbers.{peek-grounds, clear-0}
 
 -- a moment that is not before one that has passed passes too
 pub asked-later :
@@ -44,22 +47,6 @@ asked-later U K q c m a from t =
       newest = le-ltb m (K .newest c) (omega (arith, asked-since (gate U K q c) a));
       subscriber = a .subscriber;
     }
-
--- checks 1 to 3 pass, and the moment is before the newest
-pub record Early {C P R : Type 0} (U : Rule P R) (K : Columns C R) (q : Query P) (c : C) : Type 0 where
-  pub setting : U .ok (q .setting) ≡ true
-  pub table : slotsOk (K .slots c) ≡ true
-  pub moment : onClock (q .moment) ≡ true
-  pub before : q .moment < K .newest c
-
--- a refusal: its number and the subscriber with zeros beside them, and the columns as they were
-pub record Refusal {C : Type 0} (n subscriber : ℕ) (c : C) (s : Step C) : Type 0 where
-  pub answer : s .answer ≡ answered subscriber (bare n)
-  pub number : s .answer .number ≡ n
-  pub left : s .answer .left ≡ 0
-  pub reset : s .answer .reset ≡ 0
-  pub wait : s .answer .wait ≡ 0
-  pub after : s .after ≡ c
 
 refusal :
     {C : Type 0} (n subscriber : ℕ) (c : C) (s : Step C) → s .answer ≡ answered subscriber (bare n) → s .after ≡ c →
@@ -89,32 +76,7 @@ module _ {C P R : Type 0} (U : Rule P R) (K : Columns C R) where
   pub peek-early-refused : (q : Query P) (c : C) → Early U K q c → Refusal 11 (q .subscriber) c (peek U K q c)
   peek-early-refused q c e = refusal 11 (q .subscriber) c (peek U K q c) (peek-stopped U K q c (stops-early q c e)) (peek-keeps U K c q)
 
-  -- who writes the newest moment
-  pub record Written : Type 0 where
-    -- an admission makes its own moment the newest
-    pub admitted :
-        (r : Request P) (c : C) → acquire U K r c .answer .number ≡ 0 → K .newest (acquire U K r c .after) ≡ r .query .moment
-    -- an ask with another number leaves it, and so does a look
-    pub denied :
-        (r : Request P) (c : C) → eqb (acquire U K r c .answer .number) 0 ≡ false → K .newest (acquire U K r c .after) ≡ K .newest c
-    pub looked : (q : Query P) (c : C) → K .newest (peek U K q c .after) ≡ K .newest c
-    -- a clear that answers 0 makes it 0, and one that answers 2 leaves it
-    pub cleared : (c : C) → clear K c .answer .number ≡ 0 → K .newest (clear K c .after) ≡ 0
-    pub unfit : (c : C) → clear K c .answer .number ≡ 2 → K .newest (clear K c .after) ≡ K .newest c
-
-  -- a newest moment beyond the clock's limit, which no admission writes: until a clear nothing is admitted
-  pub record Locked (c : C) : Type 0 where
-    -- every moment within the limit gets 11
-    pub acquire-11 :
-        (r : Request P) → U .ok (r .query .setting) ≡ true → slotsOk (K .slots c) ≡ true → onClock (r .query .moment) ≡ true →
-        acquire U K r c .answer .number ≡ 11
-    pub peek-11 :
-        (q : Query P) → U .ok (q .setting) ≡ true → slotsOk (K .slots c) ≡ true → onClock (q .moment) ≡ true →
-        peek U K q c .answer .number ≡ 11
-    -- and no ask changes anything, at any moment
-    pub acquire-keeps : (r : Request P) → acquire U K r c .after ≡ c
-
-  pub locked : (c : C) → lastMoment < K .newest c → Locked c
+  pub locked : (c : C) → BeyondClock U K c → Locked U K c
   locked c beyond =
       record {
         acquire-11 = λ r setting table moment. early-refused r c (early (r .query) setting table moment) .number;
@@ -159,7 +121,7 @@ module _ {C P R : Type 0} {A : Account P R} (L : Balanced A) (K : Columns C R) w
   number-11 r c = (λ e. is-early r c (grounds A K r c L e), λ e. early-refused (ruleOf A) K r c e .number)
 
   peeked-early : (q : Query P) (c : C) → PeekGround A K q c 11 → Early (ruleOf A) K q c
-  peeked-early q c (peeks.stopped s) = stopped-early (ruleOf A) K q c s
+  peeked-early q c (looks.stopped s) = stopped-early (ruleOf A) K q c s
 
   pub peek-number-11 :
       (q : Query P) (c : C) →

@@ -3,41 +3,25 @@
 use mathlib.Core.Path.{_≡_, refl, sym, ap, subst, _∙_}
 use mathlib.Core.Bool.{Bool, true, false}
 use Prim.Native.Nat.{ℕ}
-use lib.Dec.{eqb, ltb}
+use lib.Dec.{eqb}
 use borrow.Author.Tests.{ltb-false}
 use Rattle.rate.specs.Account.{Account, Judged}
+use Rattle.rate.specs.Balanced.{Balanced, Fault, fine, corrupt}
 use Rattle.rate.proofs.Answers.{bare-number, admitted-number, throttled-number}
-use Rattle.rate.proofs.Balanced.{Balanced, Fault, fine, corrupt}
 use Rattle.rate.proofs.Cases.{judge-faulty, judge-admitted, judge-throttled}
 use Rattle.rate.proofs.Fresh.{fresh-admits}
 use Rattle.table.specs.Request.{Request}
-use Rattle.table.specs.Rule.{ruleOf}
+use Rattle.table.specs.Rule.{ruleOf, faultAt, admitsAt, freshAt}
 use Rattle.table.specs.Slots.{Columns}
-use Rattle.table.specs.Calls.{acquire, gate, toll}
-use Rattle.law_calls.proofs.Causes as rule
-use Rattle.law_calls.proofs.Causes.{Cause, causes, caused, verdictOn}
-use Rattle.table.proofs.Checks.{Asked, Payable, Stopped}
-use Rattle.table.proofs.Outcomes.{faultAt, admitsAt, freshAt}
-use Rattle.table.proofs.Placing.{Own, Unknown, Vacant, Full}
+use Rattle.table.specs.Calls.{acquire, toll}
+use Rattle.table.specs.Passed.{Payable}
+use Rattle.table.specs.Places.{Own}
+use Rattle.law_calls.specs.Grounds.{Ground, stopped, zero-cost, cost-above-burst, corrupt-record, throttled, table-full, admitted, admitted-new}
+use Rattle.law_calls.specs.Causes as rule
+use Rattle.law_calls.specs.Causes.{Cause, verdictOn}
+use Rattle.law_calls.proofs.Causes.{causes, caused}
 
 module _ {C P R : Type 0} (A : Account P R) (K : Columns C R) (r : Request P) (c : C) where
-  -- why an ask gets its number
-  pub data Ground : ℕ → Type 0 where
-    stopped : {n : ℕ} → Stopped (gate (ruleOf A) K (r .query) c) n → Ground n
-    zero-cost : Asked (gate (ruleOf A) K (r .query) c) → eqb (r .cost) 0 ≡ true → Ground 5
-    cost-above-burst :
-        Asked (gate (ruleOf A) K (r .query) c) → eqb (r .cost) 0 ≡ false → ltb (A .plan (r .query .setting) .burst) (r .cost) ≡ true → Ground 6
-    corrupt-record : Payable (toll (ruleOf A) K r c) → (i : ℕ) → Own K (r .query) c i → faultAt A r (K .row c i) ≡ 7 → Ground 7
-    throttled :
-        Payable (toll (ruleOf A) K r c) → (i : ℕ) → Own K (r .query) c i → faultAt A r (K .row c i) ≡ 0 →
-        admitsAt A r (K .row c i) ≡ false → Ground 8
-    table-full : Payable (toll (ruleOf A) K r c) → Unknown K (r .query) c → Full (ruleOf A) K (r .query) c → Ground 9
-    admitted :
-        Payable (toll (ruleOf A) K r c) → (i : ℕ) → Own K (r .query) c i → faultAt A r (K .row c i) ≡ 0 →
-        admitsAt A r (K .row c i) ≡ true → Ground 0
-    admitted-new :
-        Payable (toll (ruleOf A) K r c) → (i : ℕ) → Unknown K (r .query) c → Vacant (ruleOf A) K (r .query) c i → Ground 0
-
   -- the numbers that a record is judged to get
   module _ (held : R) where
     numbered : {j : Judged R} {n : ℕ} → j .verdict .number ≡ n → {k : Judged R} → k ≡ j → k .verdict .number ≡ n
@@ -59,7 +43,7 @@ module _ {C P R : Type 0} (A : Account P R) (K : Columns C R) (r : Request P) (c
         gets-0 (freshAt A r) (L .fresh-sound (r .query .setting) (r .query .moment) (p .asked .plan))
         (fresh-admits L (r .query .setting) (r .query .moment) (r .cost) (ltb-false _ _ (p .burst)))
 
-    cause : {n : ℕ} → Ground n → Cause (ruleOf A) K r c n
+    cause : {n : ℕ} → Ground A K r c n → Cause (ruleOf A) K r c n
     cause (stopped s) = rule.stopped s
     cause (zero-cost a z) = rule.zero-cost a z
     cause (cost-above-burst a z b) = rule.cost-above-most a z b
@@ -71,24 +55,24 @@ module _ {C P R : Type 0} (A : Account P R) (K : Columns C R) (r : Request P) (c
 
     on-record :
         {n : ℕ} → Payable (toll (ruleOf A) K r c) → (i : ℕ) → Own K (r .query) c i → verdictOn (ruleOf A) r (K .row c i) .number ≡ n →
-        Ground n
+        Ground A K r c n
     on-record {n} p i o e = by (L .faults (r .query .setting) (r .query .moment) (K .row c i)) (admitsAt A r (K .row c i)) refl
       where
-        by : Fault (faultAt A r (K .row c i)) → (a : Bool) → admitsAt A r (K .row c i) ≡ a → Ground n
-        by (corrupt s) a ea = subst (λ (k : ℕ). Ground k) (sym (gets-7 (K .row c i) s) ∙ e) (corrupt-record p i o s)
-        by (fine s) false ea = subst (λ (k : ℕ). Ground k) (sym (gets-8 (K .row c i) s ea) ∙ e) (throttled p i o s ea)
-        by (fine s) true ea = subst (λ (k : ℕ). Ground k) (sym (gets-0 (K .row c i) s ea) ∙ e) (admitted p i o s ea)
+        by : Fault (faultAt A r (K .row c i)) → (a : Bool) → admitsAt A r (K .row c i) ≡ a → Ground A K r c n
+        by (corrupt s) a ea = subst (λ (k : ℕ). Ground A K r c k) (sym (gets-7 (K .row c i) s) ∙ e) (corrupt-record p i o s)
+        by (fine s) false ea = subst (λ (k : ℕ). Ground A K r c k) (sym (gets-8 (K .row c i) s ea) ∙ e) (throttled p i o s ea)
+        by (fine s) true ea = subst (λ (k : ℕ). Ground A K r c k) (sym (gets-0 (K .row c i) s ea) ∙ e) (admitted p i o s ea)
 
-    ground : {n : ℕ} → Cause (ruleOf A) K r c n → Ground n
+    ground : {n : ℕ} → Cause (ruleOf A) K r c n → Ground A K r c n
     ground (rule.stopped s) = stopped s
     ground (rule.zero-cost a z) = zero-cost a z
     ground (rule.cost-above-most a z b) = cost-above-burst a z b
     ground (rule.on-own p i o e) = on-record p i o e
-    ground (rule.on-fresh p i u v e) = subst (λ (k : ℕ). Ground k) (sym (fresh-gets-0 p) ∙ e) (admitted-new p i u v)
+    ground (rule.on-fresh p i u v e) = subst (λ (k : ℕ). Ground A K r c k) (sym (fresh-gets-0 p) ∙ e) (admitted-new p i u v)
     ground (rule.table-full p u f) = table-full p u f
 
-    pub decides : {n : ℕ} → Ground n → acquire (ruleOf A) K r c .answer .number ≡ n
+    pub decides : {n : ℕ} → Ground A K r c n → acquire (ruleOf A) K r c .answer .number ≡ n
     decides g = causes (ruleOf A) K r c (cause g)
 
-    pub grounds : {n : ℕ} → acquire (ruleOf A) K r c .answer .number ≡ n → Ground n
+    pub grounds : {n : ℕ} → acquire (ruleOf A) K r c .answer .number ≡ n → Ground A K r c n
     grounds e = ground (caused (ruleOf A) K r c e)

@@ -1,37 +1,40 @@
 -- A peek is an acquire's report without the cost: it is answered as an acquire of cost 0 would be judged; after an acquire
 -- that was admitted it shows the same numbers; and where one must wait, the same left and reset.
 -- Assumes nothing.
-use mathlib.Core.Path.{_≡_, sym, ap, subst, _∙_}
+use mathlib.Core.Path.{_≡_, sym, ap, _∙_}
 use mathlib.Core.Bool.{true}
 use mathlib.Core.List.{List}
 use Prim.Native.Nat.{ℕ, _<_}
 use native.Mathlib.Omega.{arith}
-use lib.Dec.{eqb}
 use lib.ListN.{getD}
 use lib.Seq.{getD-set-same, getD-set-other}
 use borrow.Author.Tests.{ltb-false, le-ltb}
+use Rattle.ticks.proofs.Limits.{within-limits}
 use Rattle.rate.specs.declared.answer.Numbers.{Numbers}
 use Rattle.rate.specs.Answer.{answered}
 use Rattle.rate.specs.Decision.{Verdict, bare, reported}
 use Rattle.rate.specs.Account.{Account, judge, report, guard}
+use Rattle.rate.specs.Balanced.{Balanced}
 use Rattle.rate.proofs.Answers.{answered-left, answered-reset}
 use Rattle.rate.proofs.Cases.{report-sound}
 use Rattle.rate.proofs.Fresh.{fresh-report, fresh-admits}
-use Rattle.rate.proofs.Balanced.{Balanced}
-use Rattle.ticks.proofs.Limits.{within-limits}
 use Rattle.rate.proofs.Look.{look-is-free-ask, look-after, throttled-left, throttled-reset}
 use Rattle.table.specs.Request.{Query, Request}
 use Rattle.table.specs.Checks.{slotsOk, queryCheck}
-use Rattle.table.specs.Rule.{Rule, ruleOf}
-use Rattle.table.specs.Slots.{Columns, carries, own, NoneBelow}
+use Rattle.table.specs.Rule.{Rule, ruleOf, admitsAt, owedAt, spentAt, admittedAt, throttledAt, freshAt}
+use Rattle.table.specs.Slots.{Columns, carries, NoneBelow}
 use Rattle.table.specs.Calls.{Step, acquire, held, peekVerdict, peek, gate, toll}
+use Rattle.table.specs.Passed.{Asked, Payable}
+use Rattle.table.specs.Places.{Own, Unknown}
+use Rattle.table.specs.Stored.{Stored}
 use Rattle.table.proofs.Cases.{held-own, held-fresh, peek-reported, peek-answers, peek-checks}
-use Rattle.table.proofs.Checks.{Asked, Payable, asks}
-use Rattle.law_calls.proofs.Numbers.{Ground, throttled, admitted, admitted-new, grounds}
-use Rattle.table.proofs.Outcomes.{writes, waits, admits, admits-new, admitsAt, owedAt, spentAt, admittedAt, throttledAt, freshAt}
-use Rattle.table.proofs.Placing.{Own, Unknown, own-at, own-nowhere}
+use Rattle.table.proofs.Checks.{asks}
+use Rattle.table.proofs.Outcomes.{writes, waits, admits, admits-new}
+use Rattle.table.proofs.Placing.{own-at, own-nowhere}
 use Rattle.table.proofs.Slots.{not-carried, carries-own, carries-other}
-use Rattle.table.proofs.Stored.{Stored}
+use Rattle.law_calls.specs.Peek.{SameReport}
+use Rattle.law_calls.specs.Grounds.{Ground, throttled, admitted, admitted-new}
+use Rattle.law_calls.proofs.Numbers.{grounds}
 
 -- what a look is answered, for any rule
 module _ {C P R : Type 0} (U : Rule P R) (K : Columns C R) (q : Query P) (c : C) where
@@ -123,11 +126,6 @@ module _ {C P R : Type 0} {A : Account P R} (L : Balanced A) (K : Columns C R) (
   peek-after-admission e = shows-by (grounds A K r c L e)
 
 -- where an acquire must wait, a peek shows the same left and reset
-module _ {C P R : Type 0} (A : Account P R) (K : Columns C R) (r : Request P) (c : C) where
-  pub record SameReport : Type 0 where
-    pub left : peek (ruleOf A) K (r .query) c .answer .left ≡ acquire (ruleOf A) K r c .answer .left
-    pub reset : peek (ruleOf A) K (r .query) c .answer .reset ≡ acquire (ruleOf A) K r c .answer .reset
-
 module _ {C P R : Type 0} {A : Account P R} (L : Balanced A) (K : Columns C R) (r : Request P) (c : C) where
   same-report : Ground A K r c 8 → SameReport A K r c
   same-report (throttled p i o s a) =

@@ -6,31 +6,25 @@ use Prim.Native.Nat.{ℕ}
 use lib.Dec.{eqb}
 use Rattle.rate.specs.Decision.{Verdict, bare}
 use Rattle.rate.specs.Account.{Account, report}
+use Rattle.rate.specs.Balanced.{Balanced, Fault, fine, corrupt}
 use Rattle.rate.proofs.Answers.{answered-number, bare-number, reported-number}
-use Rattle.rate.proofs.Balanced.{Balanced, Fault, fine, corrupt}
 use Rattle.rate.proofs.Cases.{report-faulty, report-sound}
 use Rattle.table.specs.Request.{Query}
 use Rattle.table.specs.Checks.{slotsOk}
 use Rattle.table.specs.Rule.{ruleOf}
 use Rattle.table.specs.Slots.{Columns}
 use Rattle.table.specs.Calls.{Step, peek, clear, gate}
+use Rattle.table.specs.Passed.{Asked}
+use Rattle.table.specs.Places.{Own}
 use Rattle.table.proofs.Cases.{clear-done, clear-unfit}
-use Rattle.table.proofs.Checks.{Asked, Stopped}
+use Rattle.law_calls.specs.PeekGrounds.{PeekGround, stopped, corrupt-record, known, unknown}
+use Rattle.law_calls.specs.PeekCauses as rule
+use Rattle.law_calls.specs.PeekCauses.{PeekCause}
 use Rattle.law_calls.proofs.Cleared.{cleared-table}
-use Rattle.law_calls.proofs.PeekCauses as rule
-use Rattle.law_calls.proofs.PeekCauses.{PeekCause, peek-causes, peek-caused}
-use Rattle.table.proofs.Placing.{Own, Unknown}
+use Rattle.law_calls.proofs.PeekCauses.{peek-causes, peek-caused}
 
 -- why a look gets its number
 module _ {C P R : Type 0} (A : Account P R) (K : Columns C R) (q : Query P) (c : C) where
-  pub data PeekGround : ℕ → Type 0 where
-    stopped : {n : ℕ} → Stopped (gate (ruleOf A) K q c) n → PeekGround n
-    corrupt-record :
-        Asked (gate (ruleOf A) K q c) → (i : ℕ) → Own K q c i → A .fault (q .setting) (q .moment) (K .row c i) ≡ 7 → PeekGround 7
-    known :
-        Asked (gate (ruleOf A) K q c) → (i : ℕ) → Own K q c i → A .fault (q .setting) (q .moment) (K .row c i) ≡ 0 → PeekGround 0
-    unknown : Asked (gate (ruleOf A) K q c) → Unknown K q c → PeekGround 0
-
   gets-7 :
       (h : R) → A .fault (q .setting) (q .moment) h ≡ 7 → report A (q .setting) (q .moment) h .number ≡ 7
   gets-7 h s =
@@ -44,7 +38,7 @@ module _ {C P R : Type 0} (A : Account P R) (K : Columns C R) (q : Query P) (c :
         Asked (gate (ruleOf A) K q c) → report A (q .setting) (q .moment) (A .fresh (q .setting) (q .moment)) .number ≡ 0
     fresh-gets-0 a = gets-0 (A .fresh (q .setting) (q .moment)) (L .fresh-sound (q .setting) (q .moment) (a .plan))
 
-    cause : {n : ℕ} → PeekGround n → PeekCause (ruleOf A) K q c n
+    cause : {n : ℕ} → PeekGround A K q c n → PeekCause (ruleOf A) K q c n
     cause (stopped s) = rule.stopped s
     cause (corrupt-record a i o s) = rule.on-own a i o (gets-7 (K .row c i) s)
     cause (known a i o s) = rule.on-own a i o (gets-0 (K .row c i) s)
@@ -52,22 +46,22 @@ module _ {C P R : Type 0} (A : Account P R) (K : Columns C R) (q : Query P) (c :
 
     on-record :
         {n : ℕ} → Asked (gate (ruleOf A) K q c) → (i : ℕ) → Own K q c i → report A (q .setting) (q .moment) (K .row c i) .number ≡ n →
-        PeekGround n
+        PeekGround A K q c n
     on-record {n} a i o e = by (L .faults (q .setting) (q .moment) (K .row c i))
       where
-        by : Fault (A .fault (q .setting) (q .moment) (K .row c i)) → PeekGround n
-        by (corrupt s) = subst (λ (k : ℕ). PeekGround k) (sym (gets-7 (K .row c i) s) ∙ e) (corrupt-record a i o s)
-        by (fine s) = subst (λ (k : ℕ). PeekGround k) (sym (gets-0 (K .row c i) s) ∙ e) (known a i o s)
+        by : Fault (A .fault (q .setting) (q .moment) (K .row c i)) → PeekGround A K q c n
+        by (corrupt s) = subst (λ (k : ℕ). PeekGround A K q c k) (sym (gets-7 (K .row c i) s) ∙ e) (corrupt-record a i o s)
+        by (fine s) = subst (λ (k : ℕ). PeekGround A K q c k) (sym (gets-0 (K .row c i) s) ∙ e) (known a i o s)
 
-    ground : {n : ℕ} → PeekCause (ruleOf A) K q c n → PeekGround n
+    ground : {n : ℕ} → PeekCause (ruleOf A) K q c n → PeekGround A K q c n
     ground (rule.stopped s) = stopped s
     ground (rule.on-own a i o e) = on-record a i o e
-    ground (rule.on-fresh a u e) = subst (λ (k : ℕ). PeekGround k) (sym (fresh-gets-0 a) ∙ e) (unknown a u)
+    ground (rule.on-fresh a u e) = subst (λ (k : ℕ). PeekGround A K q c k) (sym (fresh-gets-0 a) ∙ e) (unknown a u)
 
-    pub peek-decides : {n : ℕ} → PeekGround n → peek (ruleOf A) K q c .answer .number ≡ n
+    pub peek-decides : {n : ℕ} → PeekGround A K q c n → peek (ruleOf A) K q c .answer .number ≡ n
     peek-decides g = peek-causes (ruleOf A) K q c (cause g)
 
-    pub peek-grounds : {n : ℕ} → peek (ruleOf A) K q c .answer .number ≡ n → PeekGround n
+    pub peek-grounds : {n : ℕ} → peek (ruleOf A) K q c .answer .number ≡ n → PeekGround A K q c n
     peek-grounds e = ground (peek-caused (ruleOf A) K q c e)
 
 -- a clear gets 0 exactly if the columns are a table, and otherwise 2

@@ -3,65 +3,40 @@
 -- Assumes nothing.
 use mathlib.Core.Path.{_≡_, sym, ap, subst, _∙_}
 use mathlib.Core.Logic.{_⊎_, inl, inr}
-use mathlib.Core.Bool.{true, false, false≢true}
-use Prim.Native.Nat.{ℕ, _+_, _≤_, _<_}
+use mathlib.Core.Bool.{true, false≢true}
+use Prim.Native.Nat.{ℕ, _≤_, _<_}
 use native.Mathlib.Nat.{le-refl, lt-of-not-le}
 use native.Mathlib.Omega.{arith}
 use lib.Dec.{eqb, leb}
-use borrow.Author.Tests.{le-leb, lt-leb, eq-eqb, ne-eqb, eqb-true, eqb-false, le-ltb}
+use borrow.Author.Tests.{le-leb, lt-leb, eq-eqb, ne-eqb, eqb-true, le-ltb}
+use Rattle.ticks.specs.Grains.{onClock}
+use Rattle.ticks.proofs.Limits.{within-limits}
 use Rattle.rate.specs.declared.answer.Numbers.{Numbers}
 use Rattle.rate.specs.Answer.{answered}
 use Rattle.rate.specs.Decision.{Verdict, reported, resetAt}
 use Rattle.rate.specs.Account.{Account}
-use Rattle.ticks.specs.Grains.{onClock}
+use Rattle.rate.specs.Balanced.{Balanced}
 use Rattle.rate.proofs.Answers.{answered-reset, reported-reset}
 use Rattle.rate.proofs.Cases.{report-sound}
-use Rattle.rate.proofs.Balanced.{Balanced}
-use Rattle.ticks.proofs.Limits.{within-limits}
 use Rattle.rate.proofs.Reset.{reset-from, burst-from-reset, drained-from-reset}
-use Rattle.table.specs.Request.{Query, Request, queryOf, requestOf}
+use Rattle.table.specs.Request.{Query, Request, queryOf}
 use Rattle.table.specs.Rule.{ruleOf}
-use Rattle.table.specs.Slots.{Columns, carries, own}
-use Rattle.table.specs.Calls.{Step, held, acquire, peek, gate, toll}
+use Rattle.table.specs.Slots.{Columns, carries}
+use Rattle.table.specs.Calls.{acquire, peek, gate, toll}
+use Rattle.table.specs.Passed.{Asked, Payable}
+use Rattle.table.specs.Places.{Own, Unknown}
+use Rattle.table.specs.Stored.{Stored}
 use Rattle.table.proofs.Cases.{held-own, held-fresh}
-use Rattle.table.proofs.Checks.{Asked, Payable}
+use Rattle.table.proofs.Placing.{own-at, own-nowhere}
+use Rattle.table.proofs.Writes.{admission-writes-one, taken-place, denied-changes-nothing}
+use Rattle.law_calls.specs.Reset.{wholeBurst, owed, FirstDrained, WholeBurst, ResetMoment}
+use Rattle.law_calls.specs.Grounds.{Ground, throttled, admitted}
+use Rattle.law_calls.specs.Peek.{SameReport}
+use Rattle.law_calls.specs.PeekGrounds.{PeekGround, known, unknown}
 use Rattle.law_calls.proofs.Newest.{asked-later}
-use Rattle.law_calls.proofs.Numbers.{Ground, throttled, admitted, decides, grounds}
-use Rattle.law_calls.proofs.Peek.{SameReport, peek-own, peek-unknown, peek-after-admission, peek-of-denied}
-use Rattle.law_calls.proofs.PeekNumbers.{PeekGround, known, unknown, peek-grounds}
-use Rattle.table.proofs.Placing.{Own, Unknown, own-at, own-nowhere, taken-within}
-use Rattle.table.proofs.Slots.{carries-own}
-use Rattle.table.proofs.Stored.{Stored}
-use Rattle.table.proofs.Writes.{admission-writes-one, taken-slot, denied-changes-nothing}
-
--- the whole burst, asked for at a moment
-abbrev pub wholeBurst : {P R : Type 0} → Account P R → Query P → ℕ → Request P
-wholeBurst A q m = requestOf (q .setting) m (q .subscriber) (A .plan (q .setting) .burst)
-
-module _ {C P R : Type 0} (A : Account P R) (K : Columns C R) (q : Query P) (c : C) where
-  -- what the subscriber owes at a moment, by its record; without a slot by a fresh one
-  abbrev pub owed : ℕ → ℕ
-  owed m = A .backlog (q .setting) m (held (ruleOf A) K (queryOf (q .setting) m (q .subscriber)) c)
-
-  -- a reset is the first moment, from the call on, at which nothing is owed
-  pub record FirstDrained (reset : ℕ) : Type 0 where
-    pub not-before : q .moment ≤ reset
-    -- from then on nothing is owed
-    pub drained : (m : ℕ) → reset ≤ m → owed m ≡ 0
-    -- and at any earlier moment something is
-    pub owing : (m : ℕ) → q .moment ≤ m → m < reset → 1 ≤ owed m
-
-  -- .. and the first at which the whole burst is admitted, as long as the moment is within the clock's limit
-  pub record WholeBurst (reset : ℕ) : Type 0 where
-    -- from then on it is admitted
-    pub enough : (m : ℕ) → reset ≤ m → onClock m ≡ true → acquire (ruleOf A) K (wholeBurst A q m) c .answer .number ≡ 0
-    -- and at any earlier moment it must wait
-    pub short :
-        (m : ℕ) → q .moment ≤ m → m < reset → onClock m ≡ true → acquire (ruleOf A) K (wholeBurst A q m) c .answer .number ≡ 8
-
-  pub record ResetMoment (reset : ℕ) : Type 0 where
-    pub first-drained : FirstDrained reset
-    pub whole-burst : WholeBurst reset
+use Rattle.law_calls.proofs.Numbers.{decides, grounds}
+use Rattle.law_calls.proofs.Peek.{peek-own, peek-unknown, peek-after-admission, peek-of-denied}
+use Rattle.law_calls.proofs.PeekNumbers.{peek-grounds}
 
 module _ {C P R : Type 0} {A : Account P R} (L : Balanced A) (K : Columns C R) (q : Query P) (c : C) (a : Asked (gate (ruleOf A) K q c)) where
   payable-burst : (m : ℕ) → q .moment ≤ m → onClock m ≡ true → Payable (toll (ruleOf A) K (wholeBurst A q m) c)
@@ -171,12 +146,9 @@ module _ {C P R : Type 0} {A : Account P R} (L : Balanced A) (K : Columns C R) (
   admitted-reset e =
       let seen = peek-after-admission L K S r c e in
       let taken = admission-writes-one (ruleOf A) K r c e in
-      let slots =
-      ap (λ (d : C). K .slots d) (taken .after) ∙ S .slots-put c (taken .place) (r .query .subscriber) (r .query .moment) (taken .held) in
-      let within = taken-within (ruleOf A) K (r .query) c (taken .takes) in
+      let place = taken-place (ruleOf A) K r c S taken in
       subst (ResetMoment A K (r .query) (acquire (ruleOf A) K r c .after)) (ap (λ (x : Numbers). x .reset) seen)
-      (peek-held-reset L K (r .query) (acquire (ruleOf A) K r c .after) (taken .place) (omega (arith, slots, within))
-      (carries-own _ _ _ (taken-slot (ruleOf A) K r c S taken .0)) (ap (λ (x : Numbers). x .number) seen ∙ e))
+      (peek-held-reset L K (r .query) (acquire (ruleOf A) K r c .after) (taken .place) (place .0) (place .1) (ap (λ (x : Numbers). x .number) seen ∙ e))
 
   throttled-reset :
       Ground A K r c 8 → acquire (ruleOf A) K r c .after ≡ c → SameReport A K r c →

@@ -3,47 +3,28 @@
 -- Assumes nothing.
 use mathlib.Core.Path.{_≡_, sym, ap, subst, _∙_}
 use mathlib.Core.Bool.{true, false}
-use Prim.Native.Nat.{ℕ, _+_, _≤_, _<_}
+use Prim.Native.Nat.{ℕ, _+_}
 use native.Mathlib.Omega.{arith}
 use lib.Dec.{leb}
-use borrow.Author.Tests.{le-leb, lt-leb, ltb-false, le-ltb}
+use borrow.Author.Tests.{le-leb, lt-leb, ltb-false}
+use Rattle.ticks.specs.Grains.{onClock}
+use Rattle.ticks.proofs.Limits.{within-limits}
 use Rattle.rate.specs.Decision.{retryAfter}
 use Rattle.rate.specs.Account.{Account}
-use Rattle.ticks.specs.Grains.{price, divUp, onClock}
+use Rattle.rate.specs.Balanced.{Balanced}
 use Rattle.rate.proofs.Answers.{answered-wait, throttled-wait}
-use Rattle.rate.proofs.Balanced.{Balanced}
-use Rattle.ticks.proofs.Limits.{within-limits}
 use Rattle.rate.proofs.Wait.{wait-positive, wait-most, least-wait}
 use Rattle.table.specs.Request.{Request}
-use Rattle.table.specs.Rule.{ruleOf}
+use Rattle.table.specs.Rule.{ruleOf, faultAt, admitsAt, owedAt, throttledAt}
 use Rattle.table.specs.Slots.{Columns}
-use Rattle.table.specs.Calls.{Step, acquire, gate, toll}
-use Rattle.table.proofs.Checks.{Payable}
+use Rattle.table.specs.Calls.{Step, acquire, toll}
+use Rattle.table.specs.Passed.{Payable}
+use Rattle.table.specs.Places.{Own}
+use Rattle.table.proofs.Outcomes.{waits}
+use Rattle.law_calls.specs.Wait.{later, LeastWait}
+use Rattle.law_calls.specs.Grounds.{Ground, throttled, admitted}
 use Rattle.law_calls.proofs.Newest.{asked-later}
-use Rattle.law_calls.proofs.Numbers.{Ground, throttled, admitted, decides, grounds}
-use Rattle.table.proofs.Outcomes.{waits, faultAt, admitsAt, owedAt, throttledAt}
-use Rattle.table.proofs.Placing.{Own}
-
--- the same request some milliseconds later
-abbrev pub later : {P : Type 0} → ℕ → Request P → Request P
-later k r =
-    record {
-      query = record { setting = r .query .setting; moment = r .query .moment + k; subscriber = r .query .subscriber };
-      cost = r .cost;
-    }
-
-module _ {C P R : Type 0} (A : Account P R) (K : Columns C R) (r : Request P) (c : C) where
-  -- what the wait of an answer is
-  pub record LeastWait (wait : ℕ) : Type 0 where
-    -- at least 1, and never above cost×P/N rounded up
-    pub positive : 1 ≤ wait
-    pub most : wait ≤ divUp (price (A .plan (r .query .setting)) (r .cost)) (A .plan (r .query .setting) .limit)
-    -- waiting that long gets the request in
-    pub enough :
-        (k : ℕ) → wait ≤ k → onClock (r .query .moment + k) ≡ true → acquire (ruleOf A) K (later k r) c .answer .number ≡ 0
-    -- and no shorter wait does
-    pub short :
-        (k : ℕ) → k < wait → onClock (r .query .moment + k) ≡ true → acquire (ruleOf A) K (later k r) c .answer .number ≡ 8
+use Rattle.law_calls.proofs.Numbers.{decides, grounds}
 
 module _ {C P R : Type 0} {A : Account P R} (L : Balanced A) (K : Columns C R) (r : Request P) (c : C) where
   module _ (p : Payable (toll (ruleOf A) K r c)) (i : ℕ) (o : Own K (r .query) c i) (s : faultAt A r (K .row c i) ≡ 0) where

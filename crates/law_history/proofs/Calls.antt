@@ -10,7 +10,8 @@ use Rattle.table_gcra.specs.Table as gcra-table
 use Rattle.table_gcra.proofs.Columns.{gcra-stored}
 use Rattle.table_token_bucket.specs.Table as token-bucket-table
 use Rattle.table_token_bucket.proofs.Columns.{token-bucket-stored}
-use Rattle.law_calls.proofs.Laws.{CallLaws, call-laws}
+use Rattle.law_calls.specs.Laws.{CallLaws}
+use Rattle.law_calls.proofs.Laws.{call-laws}
 
 pub gcra-laws : CallLaws (alone gcra) gcra-table.columns
 gcra-laws = call-laws (alone-balanced gcra-lawful) gcra-stored

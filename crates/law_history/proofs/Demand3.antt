@@ -7,19 +7,19 @@ use Prim.Native.Nat.{ℕ}
 use Rattle.ticks.specs.declared.plan.Plan.{Plan}
 use Rattle.rate.specs.Engine.{Engine}
 use Rattle.rate.specs.Account.{alone}
+use Rattle.rate.specs.Lawful.{Lawful}
 use Rattle.rule_gcra.proofs.Laws.{gcra-lawful}
-use Rattle.rate.proofs.Lawful.{Lawful}
 use Rattle.rule_token_bucket.proofs.Laws.{token-bucket-lawful}
 use Rattle.table.specs.Checks.{slotsOk}
 use Rattle.table.specs.Rule.{ruleOf}
 use Rattle.table.specs.Slots.{Columns}
 use Rattle.table.specs.Calls.{clear}
-use Rattle.law_calls.proofs.Cleared.{cleared-table, cleared-after}
-use Rattle.table.proofs.Stored.{Stored}
+use Rattle.table.specs.Stored.{Stored}
 use Rattle.table_gcra.specs.Table as gcra-table
 use Rattle.table_gcra.proofs.Columns.{gcra-stored}
 use Rattle.table_token_bucket.specs.Table as token-bucket-table
 use Rattle.table_token_bucket.proofs.Columns.{token-bucket-stored}
+use Rattle.law_calls.proofs.Cleared.{cleared-table, cleared-after}
 use Rattle.law_history.specs.Demand3.{Demand3}
 use Rattle.law_history.specs.History.{newest}
 use Rattle.law_history.specs.Run.{Call, engine, history, answers}

@@ -10,17 +10,18 @@ use lib.Dec.{eqb}
 use lib.ListN.{length}
 use borrow.Author.Tests.{eqb-true, eqb-false, ne-eqb, leb-true, le-leb, not-true}
 use Rattle.ticks.specs.declared.plan.Plan.{Plan}
+use Rattle.ticks.proofs.Tests.{both}
 use Rattle.rate.specs.Engine.{Engine}
 use Rattle.rate.specs.Account.{alone}
+use Rattle.rate.specs.Lawful.{Lawful}
 use Rattle.rate.proofs.Alone.{sound-true, alone-balanced}
-use Rattle.rate.proofs.Lawful.{Lawful}
-use Rattle.ticks.proofs.Tests.{both}
 use Rattle.table.specs.Request.{queryOf}
 use Rattle.table.specs.Rule.{ruleOf}
 use Rattle.table.specs.Slots.{Columns}
-use Rattle.table.proofs.Placing.{Own, Unknown, Vacant, Full, vacant-owes-nothing}
+use Rattle.table.specs.Places.{Own, Unknown, Vacant, Full}
+use Rattle.table.specs.Stored.{Stored}
+use Rattle.table.proofs.Placing.{vacant-owes-nothing}
 use Rattle.table.proofs.Slots.{carried, not-carried, carries-other}
-use Rattle.table.proofs.Stored.{Stored}
 use Rattle.law_history.specs.History.{Entry, member, names, keep, owed, owes, debtors}
 use Rattle.law_history.proofs.Columns.{somebody}
 use Rattle.law_history.proofs.Counting.{apart-distinct, apart-within, names-distinct, same-length, keep-member, kept, all-kept, keeps-all}

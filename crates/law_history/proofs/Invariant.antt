@@ -12,14 +12,14 @@ use lib.ListN.{length, getD, set}
 use lib.Seq.{getD-set-same, getD-set-other, set-getD}
 use borrow.Author.Tests.{eqb-true, eqb-false, not-true, not-false}
 use Rattle.ticks.specs.declared.plan.Plan.{Plan}
-use Rattle.rate.specs.Engine.{Engine}
 use Rattle.ticks.specs.Grains.{ticksIn, price}
-use Rattle.rate.proofs.Lawful.{Lawful}
+use Rattle.rate.specs.Engine.{Engine}
+use Rattle.rate.specs.Lawful.{Lawful}
 use Rattle.table.specs.Checks.{slotsOk}
 use Rattle.table.specs.Slots.{Columns}
+use Rattle.table.specs.Stored.{Stored}
 use Rattle.table.proofs.Checks.{slots-least}
 use Rattle.law_calls.proofs.Cleared.{zeros-empty}
-use Rattle.table.proofs.Stored.{Stored}
 use Rattle.law_history.specs.History.{Entry, newest, member, owed}
 use Rattle.law_history.proofs.Columns.{somebody, set-apart, gone-elsewhere, gone-other, one-place, zeros-apart}
 use Rattle.law_history.proofs.Counting.{Apart, member-place, place-member}

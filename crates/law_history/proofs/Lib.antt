@@ -1,4 +1,4 @@
--- The laws of the history, lowest first; `Simulation` and `Demand3` have the run theorem.
+-- The laws of the history, lowest first; `Simulation` and `Demand3` have the run theorem, and `Laws` gathers what is claimed.
 pub mod Calls
 pub mod Lives
 pub mod Owing
@@ -10,3 +10,4 @@ pub mod Simulation
 pub mod Demand3
 pub mod NeverCorrupt
 pub mod Worked
+pub mod Laws

@@ -8,15 +8,15 @@ use Prim.Native.Nat.{ℕ, zero, suc}
 use native.Mathlib.Omega.{arith}
 use lib.Dec.{eqb, ltb}
 use borrow.Author.Tests.{ne-eqb, eqb-true, eqb-false}
-use Rattle.rate.specs.declared.answer.Numbers.{Numbers}
 use Rattle.ticks.specs.declared.plan.Plan.{Plan}
+use Rattle.rate.specs.declared.answer.Numbers.{Numbers}
 use Rattle.rate.specs.Answer.{answered}
 use Rattle.rate.specs.Decision.{Verdict, admissible, bare}
 use Rattle.rate.specs.Engine.{Engine}
 use Rattle.rate.specs.Account.{alone, guard}
+use Rattle.rate.specs.Lawful.{Lawful}
 use Rattle.rate.proofs.Answers.{answered-number, bare-number, reported-number, admitted-number, throttled-number}
 use Rattle.rate.proofs.Cases.{guard-0, guard-not-0}
-use Rattle.rate.proofs.Lawful.{Lawful}
 use Rattle.rule_gcra.proofs.Laws.{gcra-lawful}
 use Rattle.rule_token_bucket.proofs.Laws.{token-bucket-lawful}
 use Rattle.table.specs.Request.{Query, Request, queryOf, requestOf}
@@ -25,8 +25,9 @@ use Rattle.table.specs.Rule.{ruleOf}
 use Rattle.table.specs.Slots.{Columns}
 use Rattle.table.specs.Calls as calls
 use Rattle.table.specs.Calls.{Step}
-use Rattle.table.proofs.Checks.{Asked, Stopped, stops, asks, asked-or-stopped, query-first, number-5, number-6, passes}
-use Rattle.table.proofs.Stored.{Stored}
+use Rattle.table.specs.Passed.{Asked, Stopped}
+use Rattle.table.specs.Stored.{Stored}
+use Rattle.table.proofs.Checks.{stops, asks, asked-or-stopped, query-first, number-5, number-6, passes}
 use Rattle.table_gcra.specs.Table as gcra-table
 use Rattle.table_gcra.proofs.Columns.{gcra-stored}
 use Rattle.table_token_bucket.specs.Table as token-bucket-table

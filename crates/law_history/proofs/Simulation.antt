@@ -5,35 +5,37 @@
 use mathlib.Core.Path.{_≡_, refl, sym, ap, ap₂, subst, _∙_}
 use mathlib.Core.Bool.{Bool, true, false}
 use mathlib.Core.List.{List, [], _∷_, _++_}
-use Prim.Native.Nat.{ℕ, zero, suc, _+_, _≤_, _<_}
+use Prim.Native.Nat.{ℕ, zero, suc, _≤_, _<_}
 use native.Mathlib.Omega.{arith}
 use lib.Dec.{eqb}
 use borrow.Author.Tests.{eq-eqb, ne-eqb, ltb-false}
-use Rattle.rate.specs.declared.answer.Numbers.{Numbers}
 use Rattle.ticks.specs.declared.plan.Plan.{Plan}
+use Rattle.ticks.specs.Grains.{planOk}
+use Rattle.ticks.proofs.Limits.{within-limits}
+use Rattle.rate.specs.declared.answer.Numbers.{Numbers}
 use Rattle.rate.specs.Answer.{answered}
 use Rattle.rate.specs.Decision.{Verdict, admissible, bare, reported, admitted, throttled}
 use Rattle.rate.specs.Engine.{Engine}
 use Rattle.rate.specs.Account.{alone, guard}
-use Rattle.ticks.specs.Grains.{planOk}
+use Rattle.rate.specs.Lawful.{Lawful}
 use Rattle.rate.proofs.Alone.{sound-true, report-sound, alone-balanced}
 use Rattle.rate.proofs.Cases.{guard-0, guard-not-0}
 use Rattle.rate.proofs.Fresh.{burst-admissible, fresh-admits, nothing-owed}
-use Rattle.ticks.proofs.Limits.{within-limits}
-use Rattle.rate.proofs.Lawful.{Lawful}
 use Rattle.table.specs.Request.{Query, Request, queryOf, requestOf}
 use Rattle.table.specs.Checks.{slotsOk, Gate, gateOf, Toll, tollOf, queryCheck, requestCheck}
 use Rattle.table.specs.Rule.{ruleOf}
 use Rattle.table.specs.Slots.{Columns}
 use Rattle.table.specs.Calls as calls
 use Rattle.table.specs.Calls.{Step, slotFor}
+use Rattle.table.specs.Passed.{Asked, Payable}
+use Rattle.table.specs.Places.{Own, Unknown, Vacant}
+use Rattle.table.specs.Stored.{Stored}
 use Rattle.table.proofs.Cases.{clear-done, peek-answers, peek-keeps, peek-refused}
-use Rattle.table.proofs.Checks.{Asked, asked, asked-since, Payable, payable, pays}
+use Rattle.table.proofs.Checks.{asked, asked-since, payable, pays}
 use Rattle.table.proofs.Outcomes as outcomes
-use Rattle.law_calls.proofs.Peek.{peek-own, peek-unknown}
-use Rattle.table.proofs.Placing.{Own, Unknown, Vacant, Placed, in-own, in-free, nowhere, placed}
+use Rattle.table.proofs.Placing.{Placed, in-own, in-free, nowhere, placed}
 use Rattle.table.proofs.Slots.{carried, not-carried}
-use Rattle.table.proofs.Stored.{Stored}
+use Rattle.law_calls.proofs.Peek.{peek-own, peek-unknown}
 use Rattle.law_history.specs.History.{Entry, newest, member, owed, callerDebt, otherDebtors, entryOf, says, decide, gateAt, tollAt, shown}
 use Rattle.law_history.specs.History as book
 use Rattle.law_history.specs.Run.{Call, acquire, peek, clear, engine, history, step, answers}

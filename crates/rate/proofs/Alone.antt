@@ -9,9 +9,9 @@ use Rattle.ticks.specs.declared.plan.Plan.{Plan}
 use Rattle.rate.specs.Decision.{bare, admitted, throttled, reported}
 use Rattle.rate.specs.Engine.{Engine}
 use Rattle.rate.specs.Account.{soundness, alone, judge, report}
-use Rattle.rate.proofs.Balanced.{Fault, fine, corrupt, Balanced}
+use Rattle.rate.specs.Balanced.{Fault, fine, corrupt, Balanced}
+use Rattle.rate.specs.Lawful.{Lawful}
 use Rattle.rate.proofs.Cases as cases
-use Rattle.rate.proofs.Lawful.{Lawful}
 
 -- a record is at fault exactly if it is not sound
 sound-0 : (t : Bool) → soundness t ≡ 0 → t ≡ true

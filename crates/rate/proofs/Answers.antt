@@ -4,13 +4,15 @@ use mathlib.Core.Path.{_≡_, refl, ap, _∙_}
 use mathlib.Core.Bool.{false}
 use lib.Dec.{eqb}
 use Prim.Native.Nat.{ℕ}
+use Rattle.ticks.specs.declared.plan.Plan.{Plan}
+use Rattle.ticks.specs.declared.units.Millis.{Millis}
+use Rattle.rate.specs.declared.answer.Answer.{Answer}
 use Rattle.rate.specs.declared.answer.Cleared.the-variants.{Done, BadTable as Unfit}
 use Rattle.rate.specs.declared.answer.Outcome.{Outcome}
-use Rattle.rate.specs.declared.answer.Outcome.the-variants.{Refused}
+use Rattle.rate.specs.declared.answer.Outcome.the-variants.{Admitted, Throttled, Refused}
 use Rattle.rate.specs.declared.answer.Reason.{Reason}
 use Rattle.rate.specs.declared.answer.Reason.the-variants.{BadPlan, BadTable, LateMoment, EarlyMoment, NoSubscriber, ZeroCost, CostAboveBurst, CorruptRecord, TableFull}
-use Rattle.ticks.specs.declared.plan.Plan.{Plan}
-use Rattle.rate.specs.Decision.{Verdict, bare, reported, admitted, throttled, resetAt, retryAfter}
+use Rattle.rate.specs.Decision.{Verdict, bare, reported, admitted, throttled, remaining, resetAt, retryAfter}
 use Rattle.rate.specs.Answer.{reasonNumber, verdictOf, answered, numbersOf, clearedNumbers}
 
 pub bad-plan : reasonNumber BadPlan ≡ 1
@@ -62,6 +64,22 @@ refuses CostAboveBurst = refl
 refuses CorruptRecord = refl
 refuses TableFull = refl
 
+-- each outcome's numbers
+pub admitted-is : (left : ℕ) (reset : Millis) → verdictOf (Admitted left reset) ≡ record { number = 0; left = left; reset = reset .0; wait = 0 }
+unfolding verdictOf
+admitted-is left reset = refl
+
+pub throttled-is :
+    (left : ℕ) (reset wait : Millis) →
+    verdictOf (Throttled left reset wait) ≡ record { number = 8; left = left; reset = reset .0; wait = wait .0 }
+unfolding verdictOf
+throttled-is left reset wait = refl
+
+pub refused-is :
+    (reason : Reason) → verdictOf (Refused reason) ≡ record { number = reasonNumber reason; left = 0; reset = 0; wait = 0 }
+unfolding verdictOf bare
+refused-is reason = refl
+
 -- a refusal is its number with zeros
 pub refused : (reason : Reason) → verdictOf (Refused reason) ≡ bare (reasonNumber reason)
 unfolding verdictOf
@@ -92,9 +110,21 @@ pub reported-number : (p : Plan) (at backlog : ℕ) → reported p at backlog .n
 unfolding reported
 reported-number p at backlog = refl
 
+pub reported-left : (p : Plan) (at backlog : ℕ) → reported p at backlog .left ≡ remaining p backlog
+unfolding reported
+reported-left p at backlog = refl
+
 pub reported-reset : (p : Plan) (at backlog : ℕ) → reported p at backlog .reset ≡ resetAt p at backlog
 unfolding reported
 reported-reset p at backlog = refl
+
+pub reported-wait : (p : Plan) (at backlog : ℕ) → reported p at backlog .wait ≡ 0
+unfolding reported
+reported-wait p at backlog = refl
+
+pub admitted-wait : (p : Plan) (at backlog cost : ℕ) → admitted p at backlog cost .wait ≡ 0
+unfolding admitted
+admitted-wait p at backlog cost = reported-wait p at _
 
 pub admitted-number : (p : Plan) (at backlog cost : ℕ) → admitted p at backlog cost .number ≡ 0
 unfolding admitted
@@ -113,6 +143,10 @@ pub answered-number : (subscriber : ℕ) (v : Verdict) → answered subscriber v
 unfolding answered
 answered-number subscriber v = refl
 
+pub answered-subscriber : (subscriber : ℕ) (v : Verdict) → answered subscriber v .subscriber ≡ subscriber
+unfolding answered
+answered-subscriber subscriber v = refl
+
 pub answered-left : (subscriber : ℕ) (v : Verdict) → answered subscriber v .left ≡ v .left
 unfolding answered
 answered-left subscriber v = refl
@@ -129,6 +163,21 @@ answered-wait subscriber v = refl
 pub numbers : (subscriber : ℕ) (outcome : Outcome) → numbersOf (record { subscriber = subscriber; outcome = outcome }) ≡ answered subscriber (verdictOf outcome)
 unfolding numbersOf
 numbers subscriber outcome = refl
+
+pub answer-is :
+    (a : Answer) (v : Verdict) → verdictOf (a .outcome) ≡ v →
+    numbersOf a ≡ record { number = v .number; subscriber = a .subscriber; left = v .left; reset = v .reset; wait = v .wait }
+unfolding numbersOf answered
+answer-is a v e = ap (λ (w : Verdict). answered (a .subscriber) w) e
+
+-- the five numbers of a clear
+pub done-is : clearedNumbers Done ≡ record { number = 0; subscriber = 0; left = 0; reset = 0; wait = 0 }
+unfolding clearedNumbers answered bare
+done-is = refl
+
+pub unfit-is : clearedNumbers Unfit ≡ record { number = 2; subscriber = 0; left = 0; reset = 0; wait = 0 }
+unfolding clearedNumbers answered bare
+unfit-is = refl
 
 pub cleared-done : clearedNumbers Done ≡ answered 0 (bare 0)
 unfolding clearedNumbers

@@ -9,11 +9,11 @@ use native.Mathlib.Omega.{arith}
 use borrow.Author.Tests.{le-leb}
 use Rattle.ticks.specs.declared.plan.Plan.{Plan}
 use Rattle.ticks.specs.Grains.{price, capacity}
+use Rattle.ticks.proofs.Limits.{capacity-is, price-within}
 use Rattle.rate.specs.Decision.{admissible, remaining, reported}
 use Rattle.rate.specs.Account.{Account, report}
+use Rattle.rate.specs.Balanced.{Balanced}
 use Rattle.rate.proofs.Cases.{report-sound}
-use Rattle.rate.proofs.Balanced.{Balanced}
-use Rattle.ticks.proofs.Limits.{capacity-is, price-within}
 use Rattle.rate.proofs.Reset.{reset-of-nothing}
 
 pub burst-admissible : (p : Plan) (cost : ℕ) → cost ≤ p .burst → admissible p 0 cost ≡ true

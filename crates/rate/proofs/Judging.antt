@@ -6,18 +6,18 @@ use mathlib.Core.Bool.{Bool, true, false, not}
 use Prim.Native.Nat.{ℕ, _≤_}
 use lib.Dec.{eqb}
 use borrow.Author.Tests.{leb-true, leb-false, not-true, not-false, eq-eqb}
-use Rattle.rate.specs.declared.answer.Outcome.the-variants.{Refused}
-use Rattle.rate.specs.declared.answer.Reason.the-variants.{CorruptRecord}
 use Rattle.ticks.specs.declared.plan.Plan.{Plan}
 use Rattle.ticks.specs.Grains.{capacity, InForce}
+use Rattle.rate.specs.declared.answer.Outcome.the-variants.{Refused}
+use Rattle.rate.specs.declared.answer.Reason.the-variants.{CorruptRecord}
 use Rattle.rate.specs.Answer.{verdictOf}
 use Rattle.rate.specs.Decision.{Verdict, bare, admitted, throttled, reported, admissible, Owing, Admitting, Throttling}
 use Rattle.rate.specs.Engine.{Engine}
-use Rattle.rate.specs.Account.{alone, Judged, judge, report, Settled, kept, spent, settled}
+use Rattle.rate.specs.Account.{alone, Judged, judge, report, kept, spent, settled}
+use Rattle.rate.specs.Lawful.{Lawful}
 use Rattle.rate.proofs.Alone.{judge-corrupt, judge-admitted, judge-throttled, report-corrupt, report-sound}
 use Rattle.rate.proofs.Answers.{corrupt, bare-number, admitted-number, throttled-number}
 use Rattle.rate.proofs.Cases.{settled-spent, settled-kept}
-use Rattle.rate.proofs.Lawful.{Lawful}
 
 -- a judgement of which it is known what it is
 keeps-as : {R : Type 0} {j : Judged R} (k : Judged R) → j ≡ k → eqb (k .verdict .number) 0 ≡ false → kept (k .verdict) ≡ settled j

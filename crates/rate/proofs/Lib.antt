@@ -1,9 +1,8 @@
 -- The laws of this crate, lowest first. What stands above the crate cites these and no definition's text.
 pub mod Answers
 pub mod Left
-pub mod Lawful
-pub mod Balanced
 pub mod Cases
+pub mod Zeros
 pub mod Alone
 pub mod Judging
 pub mod Wait
@@ -11,3 +10,4 @@ pub mod Reset
 pub mod Fresh
 pub mod Look
 pub mod Life
+pub mod Laws

@@ -12,7 +12,7 @@ use Rattle.rate.specs.Decision.{admissible, admitted, throttled}
 use Rattle.rate.specs.Engine.{Engine}
 use Rattle.rate.specs.Account.{alone, Judged, judge}
 use Rattle.rate.specs.Life.{Ask, Rising, newest, lived, verdicts, Agreement}
-use Rattle.rate.proofs.Lawful.{Lawful}
+use Rattle.rate.specs.Lawful.{Lawful}
 use Rattle.rate.proofs.Alone.{judge-admitted, judge-throttled}
 
 pub record Alike {R S : Type 0} (E : Engine R) (F : Engine S) (p : Plan) (at : ℕ) (r : R) (s : S) : Type 0 where

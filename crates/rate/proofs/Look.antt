@@ -8,11 +8,11 @@ use native.Mathlib.Omega.{arith}
 use borrow.Author.Tests.{le-leb, ne-eqb}
 use Rattle.ticks.specs.declared.plan.Plan.{Plan}
 use Rattle.ticks.specs.Grains.{price, capacity}
+use Rattle.ticks.proofs.Products.{price-none}
 use Rattle.rate.specs.Decision.{admissible, reported, admitted, throttled}
 use Rattle.rate.specs.Account.{Account, judge, report}
+use Rattle.rate.specs.Balanced.{Balanced}
 use Rattle.rate.proofs.Cases.{judge-faulty, judge-admitted, report-faulty, report-sound}
-use Rattle.rate.proofs.Balanced.{Balanced}
-use Rattle.ticks.proofs.Products.{price-none}
 
 -- nothing costs nothing
 admitted-none : (p : Plan) (at backlog : ℕ) → admitted p at backlog 0 ≡ reported p at backlog

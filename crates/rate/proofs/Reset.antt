@@ -2,19 +2,18 @@
 -- whole burst, which is admitted exactly where nothing is owed, and that wait is the least.
 -- Assumes nothing.
 use mathlib.Core.Path.{_≡_, sym, ap, _∙_}
-use mathlib.Core.Bool.{true}
 use Prim.Native.Nat.{ℕ, zero, suc, _+_, _-_, _≤_, _<_}
 use native.Mathlib.Omega.{arith}
 use lib.Dec.{leb, eqb}
 use borrow.Author.Tests.{le-leb, lt-leb, ne-eqb}
 use Rattle.ticks.specs.declared.plan.Plan.{Plan}
 use Rattle.ticks.specs.Grains.{price, capacity, divUp}
-use Rattle.rate.specs.Decision.{admissible, resetAt, retryAfter}
-use Rattle.rate.specs.Account.{Account}
-use Rattle.rate.proofs.Balanced.{Balanced}
 use Rattle.ticks.proofs.Limits.{capacity-is-price}
 use Rattle.ticks.proofs.Rounding.{divUp-zero}
 use Rattle.ticks.proofs.Tests.{leb-same}
+use Rattle.rate.specs.Decision.{admissible, resetAt, retryAfter}
+use Rattle.rate.specs.Account.{Account}
+use Rattle.rate.specs.Balanced.{Balanced}
 use Rattle.rate.proofs.Wait.{least-wait}
 
 -- a whole burst is admitted exactly where nothing is owed

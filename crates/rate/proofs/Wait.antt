@@ -1,7 +1,7 @@
 -- A wait is the least one, at least 1, and at most what the cost alone takes, for any account with the backlog law.
 -- Assumes nothing.
 use mathlib.Core.Path.{_≡_, _∙_}
-use mathlib.Core.Bool.{true, false}
+use mathlib.Core.Bool.{false}
 use Prim.Native.Nat.{ℕ, _+_, _-_, _*_, _≤_, _<_}
 use native.Mathlib.Nat.{add-sub-cancel-left, lt-of-not-le}
 use native.Mathlib.Omega.{arith}
@@ -9,12 +9,12 @@ use lib.Dec.{leb}
 use borrow.Author.Tests.{leb-false}
 use Rattle.ticks.specs.declared.plan.Plan.{Plan}
 use Rattle.ticks.specs.Grains.{ticksIn, price, capacity, divUp}
-use Rattle.rate.specs.Decision.{admissible, retryAfter}
-use Rattle.rate.specs.Account.{Account}
-use Rattle.rate.proofs.Balanced.{Balanced}
 use Rattle.ticks.proofs.Limits.{ticks-are, price-within}
 use Rattle.ticks.proofs.Rounding.{divUp-least, divUp-mono}
 use Rattle.ticks.proofs.Tests.{leb-same}
+use Rattle.rate.specs.Decision.{admissible, retryAfter}
+use Rattle.rate.specs.Account.{Account}
+use Rattle.rate.specs.Balanced.{Balanced}
 
 -- what the wait is, of a backlog
 module _ (p : Plan) (backlog cost : ℕ) (rate : 1 ≤ p .limit) where

@@ -1,24 +1,26 @@
--- GCRA has the backlog law: its record is the moment, in ticks, at which the backlog is gone.
+-- GCRA has the backlog law: its record is the moment, in ticks, at which the backlog is gone. And what is stored means what
+-- document 01 says.
 -- Assumes nothing.
 use mathlib.Core.Path.{_≡_, refl}
 use mathlib.Core.Bool.{true, false, _&&_, and-false}
 use Prim.Native.Nat.{ℕ, _+_, _-_, _≤_, _<_, max}
 use native.Mathlib.Omega.{arith}
 use lib.Dec.{leb, eqb}
-use borrow.Author.Tests.{leb-true, leb-false, le-leb, eq-eqb, ne-eqb}
+use borrow.Author.Tests.{leb-true, leb-false, le-leb, lt-leb, eq-eqb, ne-eqb}
 use Rattle.ticks.specs.declared.plan.Plan.{Plan}
 use Rattle.ticks.specs.declared.units.Ticks.{Ticks}
 use Rattle.ticks.specs.Grains.{ticksIn, price, capacity}
+use Rattle.ticks.proofs.Products.{ticks-split}
+use Rattle.ticks.proofs.Tests.{by-leb}
 use Rattle.rate.specs.declared.answer.Outcome.{Outcome}
 use Rattle.rate.specs.Answer.{verdictOf}
 use Rattle.rate.specs.Decision.{admissible}
 use Rattle.rate.specs.Account.{kept, spent}
+use Rattle.rate.specs.Lawful.{Lawful}
+use Rattle.rate.proofs.Left.{fits-test}
 use Rattle.rule_gcra.specs.declared.Judgement.the-variants.{Keep, Spend}
 use Rattle.rule_gcra.specs.Gcra.{gcra, fresh, sound, free, later, backlog, admits, spend, judgementOf}
-use Rattle.rate.proofs.Lawful.{Lawful}
-use Rattle.rate.proofs.Left.{fits-test}
-use Rattle.ticks.proofs.Products.{ticks-split}
-use Rattle.ticks.proofs.Tests.{by-leb}
+use Rattle.rule_gcra.specs.Laws.{GcraLaws}
 
 owes-nothing : (p : Plan) (at : ℕ) (r : Ticks) → r .0 ≤ ticksIn p at → backlog p at r ≡ 0
 unfolding backlog later
@@ -108,3 +110,20 @@ judgement-spend outcome tat = refl
 pub free-test : (p : Plan) (at : ℕ) (tat : Ticks) → gcra .free p at tat ≡ leb (tat .0) (ticksIn p at)
 unfolding gcra free
 free-test p at tat = refl
+
+-- what is stored after an admission
+spent-tat :
+    (p : Plan) (at : ℕ) (tat : Ticks) (cost : ℕ) → gcra .spend p at tat cost .0 ≡ max (tat .0) (ticksIn p at) + price p cost
+unfolding gcra spend later
+spent-tat p at tat cost = refl
+
+pub gcra-laws : GcraLaws
+unfolding gcra sound
+gcra-laws =
+    record {
+      lawful = gcra-lawful;
+      possible = fact-sound;
+      impossible = λ p at tat h. lt-leb (tat .0) (ticksIn p at + capacity p) h;
+      free-test = free-test;
+      spent-tat = spent-tat;
+    }

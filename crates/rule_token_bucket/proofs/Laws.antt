@@ -7,18 +7,19 @@ use native.Mathlib.Omega.{arith}
 use lib.Dec.{leb, eqb}
 use borrow.Author.Tests.{leb-true, leb-false, le-leb, lt-leb, eq-eqb, ne-eqb}
 use Rattle.ticks.specs.declared.plan.Plan.{Plan}
-use Rattle.rule_token_bucket.specs.declared.Bucket.{Bucket}
 use Rattle.ticks.specs.Grains.{ticksIn, price, capacity}
+use Rattle.ticks.proofs.Products.{ticks-split, ticks-none}
+use Rattle.ticks.proofs.Tests.{both, by-leb}
 use Rattle.rate.specs.declared.answer.Outcome.{Outcome}
 use Rattle.rate.specs.Answer.{verdictOf}
 use Rattle.rate.specs.Decision.{admissible}
 use Rattle.rate.specs.Account.{kept, spent}
+use Rattle.rate.specs.Lawful.{Lawful}
+use Rattle.rate.proofs.Left.{fits-test}
+use Rattle.rule_token_bucket.specs.declared.Bucket.{Bucket}
 use Rattle.rule_token_bucket.specs.declared.Judgement.the-variants.{Keep, Spend}
 use Rattle.rule_token_bucket.specs.TokenBucket.{tokenBucket, fresh, sound, refilled, free, levelNow, backlog, admits, spend, judgementOf}
-use Rattle.rate.proofs.Lawful.{Lawful}
-use Rattle.rate.proofs.Left.{fits-test}
-use Rattle.ticks.proofs.Products.{ticks-split, ticks-none}
-use Rattle.ticks.proofs.Tests.{both, by-leb}
+use Rattle.rule_token_bucket.specs.Laws.{TokenBucketLaws}
 
 regroup : (a b c : Bool) → (a && (b && c)) ≡ ((b && a) && c)
 regroup true true c = refl
@@ -133,3 +134,26 @@ judgement-keep outcome = refl
 pub judgement-spend : (outcome : Outcome) (bucket : Bucket) → judgementOf (Spend outcome bucket) ≡ spent (verdictOf outcome) bucket
 unfolding judgementOf
 judgement-spend outcome bucket = refl
+
+-- what is stored after an admission
+spent-level :
+    (p : Plan) (at : ℕ) (b : Bucket) (cost : ℕ) →
+    tokenBucket .spend p at b cost .level .0 ≡ min (capacity p) (b .level .0 + ticksIn p (at - b .last .0)) - price p cost
+unfolding tokenBucket spend levelNow refilled
+spent-level p at b cost = refl
+
+spent-last : (p : Plan) (at : ℕ) (b : Bucket) (cost : ℕ) → tokenBucket .spend p at b cost .last .0 ≡ at
+unfolding tokenBucket spend
+spent-last p at b cost = refl
+
+pub token-bucket-laws : TokenBucketLaws
+unfolding tokenBucket sound
+token-bucket-laws =
+    record {
+      lawful = token-bucket-lawful;
+      possible = λ p at b level last. fact-sound p at b (record { level = level; last = last });
+      impossible-level = λ p at b h. rw (lt-leb (b .level .0) (capacity p) h);
+      impossible-last = λ p at b h. rw (lt-leb (b .last .0) at h) (and-false (leb (b .level .0) (capacity p)));
+      spent-level = spent-level;
+      spent-last = spent-last;
+    }

@@ -10,8 +10,9 @@ use borrow.Author.Tests.{le-leb, lt-leb, leb-true, ltb-false, eq-eqb, ne-eqb}
 use Rattle.ticks.specs.declared.plan.Plan.{Plan}
 use Rattle.ticks.specs.Grains.{planOk, onClock, InForce}
 use Rattle.ticks.proofs.Limits.{in-force}
-use Rattle.rate.proofs.Cases.{guard-0, guard-not-0}
 use Rattle.ticks.proofs.Tests.{both}
+use Rattle.rate.proofs.Cases.{guard-0, guard-not-0}
+use Rattle.table.specs.Passed.{Stopped, bad-plan, bad-table, late-moment, early-moment, no-subscriber, Asked, Payable}
 use Rattle.table.specs.Checks.{mostSlots, slotsOk, Gate, gateOf, Toll, queryCheck, costCheck, requestCheck}
 
 module _ (g : Gate) where
@@ -39,45 +40,19 @@ module _ (g : Gate) where
   unfolding queryCheck
   number-4 plan table moment newest subscriber = rw (plan, table, moment, newest, subscriber)
 
-  -- why one of the checks before the cost's stops a call: it applies, and none before it
-  pub data Stopped : ℕ → Type 0 where
-    bad-plan : g .ok ≡ false → Stopped 1
-    bad-table : g .ok ≡ true → slotsOk (g .slots) ≡ false → Stopped 2
-    late-moment : g .ok ≡ true → slotsOk (g .slots) ≡ true → onClock (g .moment) ≡ false → Stopped 3
-    early-moment :
-        g .ok ≡ true → slotsOk (g .slots) ≡ true → onClock (g .moment) ≡ true → ltb (g .moment) (g .newest) ≡ true →
-        Stopped 11
-    no-subscriber :
-        g .ok ≡ true → slotsOk (g .slots) ≡ true → onClock (g .moment) ≡ true → ltb (g .moment) (g .newest) ≡ false →
-        eqb (g .subscriber) 0 ≡ true → Stopped 4
-
-  pub stops : {n : ℕ} → Stopped n → queryCheck g ≡ n
+  pub stops : {n : ℕ} → Stopped g n → queryCheck g ≡ n
   stops (bad-plan a) = number-1 a
   stops (bad-table a b) = number-2 a b
   stops (late-moment a b m) = number-3 a b m
   stops (early-moment a b m e) = number-11 a b m e
   stops (no-subscriber a b m e s) = number-4 a b m e s
 
-  pub stops-not-0 : {n : ℕ} → Stopped n → eqb n 0 ≡ false
+  pub stops-not-0 : {n : ℕ} → Stopped g n → eqb n 0 ≡ false
   stops-not-0 (bad-plan a) = refl
   stops-not-0 (bad-table a b) = refl
   stops-not-0 (late-moment a b m) = refl
   stops-not-0 (early-moment a b m e) = refl
   stops-not-0 (no-subscriber a b m e s) = refl
-
--- the checks before the cost's have passed
-pub record Asked (g : Gate) : Type 0 where
-  pub plan : g .ok ≡ true
-  pub table : slotsOk (g .slots) ≡ true
-  pub moment : onClock (g .moment) ≡ true
-  pub newest : ltb (g .moment) (g .newest) ≡ false
-  pub subscriber : eqb (g .subscriber) 0 ≡ false
-
--- all checks have passed
-pub record Payable (t : Toll) : Type 0 where
-  pub asked : Asked (t .gate)
-  pub cost : eqb (t .cost) 0 ≡ false
-  pub burst : ltb (t .most) (t .cost) ≡ false
 
 module _ (g : Gate) where
   pub asks : Asked g → queryCheck g ≡ 0
@@ -122,6 +97,10 @@ slots-least slots e = leb-true _ _ (both _ _ e .0)
 pub slots-some : (slots : ℕ) → slots ≤ mostSlots → slotsOk slots ≡ leb 1 slots
 unfolding slotsOk
 slots-some slots h = rw (le-leb slots mostSlots h) (and-true (leb 1 slots))
+
+pub slots-none : slotsOk 0 ≡ false
+unfolding slotsOk
+slots-none = refl
 
 -- document 02, Item 8: 1 to 65,535 slots are a table
 pub slots-within : (slots : ℕ) → 1 ≤ slots → slots ≤ 65535 → slotsOk slots ≡ true

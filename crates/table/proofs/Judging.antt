@@ -23,8 +23,9 @@ use Rattle.table.specs.Checks.{checkNumber, Gate, gateOf, Toll, tollOf, 
 use Rattle.table.specs.Rule.{Rule}
 use Rattle.table.specs.Slots.{Columns, common, seek, carries, own, vacant, lowestFree}
 use Rattle.table.specs.Calls.{Step, none, at, Ruling, keep, write, ruled, slotFor, judgeCall, acquire, held, peekVerdict, peek, gate, toll}
+use Rattle.table.specs.Passed.{Asked}
 use Rattle.table.proofs.Cases.{ruled-kept, ruled-spent, judge-refused, judge-full, judge-at, held-own, held-fresh, peek-refused, peek-reported, peek-answers}
-use Rattle.table.proofs.Checks.{Asked, asked, payable, slots-least}
+use Rattle.table.proofs.Checks.{asked, payable, slots-least}
 use Rattle.table.proofs.Outcomes.{acquire-keeps, acquire-writes}
 use Rattle.table.proofs.Slots.{common-equal}
 

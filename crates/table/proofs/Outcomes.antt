@@ -7,21 +7,21 @@ use Prim.Native.Nat.{ℕ}
 use lib.Dec.{eqb}
 use borrow.Author.Tests.{eq-eqb, ltb-false}
 use Rattle.rate.specs.Answer.{answered}
-use Rattle.rate.specs.Decision.{Verdict, bare, admitted, throttled}
+use Rattle.rate.specs.Decision.{Verdict, bare}
 use Rattle.rate.specs.Account.{Account, Judged, judge, settled}
+use Rattle.rate.specs.Balanced.{Balanced}
 use Rattle.rate.proofs.Answers.{bare-number, admitted-number, throttled-number}
 use Rattle.rate.proofs.Cases.{judge-faulty, judge-admitted, judge-throttled}
 use Rattle.rate.proofs.Fresh.{fresh-admits}
-use Rattle.rate.proofs.Balanced.{Balanced}
 use Rattle.table.specs.Request.{Request}
 use Rattle.table.specs.Checks.{requestCheck}
-use Rattle.table.specs.Rule.{Rule, ruleOf}
+use Rattle.table.specs.Rule.{Rule, ruleOf, freshAt, faultAt, admitsAt, owedAt, spentAt, admittedAt, throttledAt}
 use Rattle.table.specs.Slots.{Columns, own, lowestFree}
-use Rattle.table.specs.Calls.{Step, Ruling, keep, write, ruled, judgeCall, commit, acquire, gate, toll}
-use Rattle.table.proofs.Cases.{ruled-writes, ruled-keeps, slot-own, slot-new, slot-none, judge-refused, judge-full, judge-at}
-use Rattle.table.proofs.Cases.{commit-keep, commit-write, acquire-commits}
-use Rattle.table.proofs.Checks.{Payable, pays}
-use Rattle.table.proofs.Placing.{Own, Unknown, Vacant, Full}
+use Rattle.table.specs.Calls.{Step, Ruling, keep, write, ruled, judgeCall, commit, acquire, toll}
+use Rattle.table.specs.Passed.{Payable}
+use Rattle.table.specs.Places.{Own, Unknown, Vacant, Full}
+use Rattle.table.proofs.Cases.{ruled-writes, ruled-keeps, slot-own, slot-new, slot-none, judge-refused, judge-full, judge-at, commit-keep, commit-write, acquire-commits}
+use Rattle.table.proofs.Checks.{pays}
 use Rattle.table.proofs.Seek.{seek-at, seek-nowhere}
 
 -- an answer, and the columns as they were
@@ -94,30 +94,6 @@ keeps-as i k e h = ap (λ (x : Judged _). ruled i (settled x)) e ∙ ruled-keeps
 writes-as :
     {R : Type 0} (i : ℕ) {j : Judged R} (k : Judged R) → j ≡ k → k .verdict .number ≡ 0 → ruled i (settled j) ≡ write (k .verdict) i (k .after)
 writes-as i k e h = ap (λ (x : Judged _). ruled i (settled x)) e ∙ ruled-writes i k (eq-eqb _ _ h)
-
--- an account's formulas at a request
-abbrev pub freshAt : {P R : Type 0} → Account P R → Request P → R
-freshAt A r = A .fresh (r .query .setting) (r .query .moment)
-
--- .. on a record
-module _ {P R : Type 0} (A : Account P R) (r : Request P) (held : R) where
-  abbrev pub faultAt : ℕ
-  faultAt = A .fault (r .query .setting) (r .query .moment) held
-
-  abbrev pub admitsAt : Bool
-  admitsAt = A .admits (r .query .setting) (r .query .moment) held (r .cost)
-
-  abbrev pub owedAt : ℕ
-  owedAt = A .backlog (r .query .setting) (r .query .moment) held
-
-  abbrev pub spentAt : R
-  spentAt = A .spend (r .query .setting) (r .query .moment) held (r .cost)
-
-  abbrev pub admittedAt : Verdict
-  admittedAt = admitted (A .plan (r .query .setting)) (r .query .moment) owedAt (r .cost)
-
-  abbrev pub throttledAt : Verdict
-  throttledAt = throttled (A .plan (r .query .setting)) (r .query .moment) owedAt (r .cost)
 
 -- with a slot of its own
 module _

@@ -2,41 +2,34 @@
 -- none; and only an admission writes, into that slot.
 -- Assumes nothing.
 use mathlib.Core.Path.{_≡_, refl, sym, ap, subst, _∙_}
-use mathlib.Core.Bool.{Bool, true, false, cond, _&&_, _||_}
-use Prim.Native.Nat.{ℕ, zero, suc, _<_}
+use mathlib.Core.Bool.{Bool, true, false, _&&_, _||_}
+use Prim.Native.Nat.{ℕ, _<_}
 use native.Mathlib.Omega.{arith}
 use lib.Dec.{eqb}
-use borrow.Author.Tests.{eqb-true, ne-eqb}
+use borrow.Author.Tests.{eqb-true}
 use Rattle.rate.specs.Decision.{Verdict, bare}
 use Rattle.rate.specs.Account.{Account, Judged, guard, settled}
+use Rattle.rate.specs.Balanced.{Balanced}
 use Rattle.rate.proofs.Answers.{bare-number}
 use Rattle.rate.proofs.Cases.{guard-0, guard-not-0}
-use Rattle.rate.proofs.Balanced.{Balanced}
 use Rattle.table.specs.declared.search.Place.{Place}
 use Rattle.table.specs.declared.search.Place.the-variants.{Nowhere, At}
 use Rattle.table.specs.Request.{Query, Request}
 use Rattle.table.specs.Checks.{requestCheck}
 use Rattle.table.specs.Rule.{Rule, ruleOf}
-use Rattle.table.specs.Slots.{Columns, seek, carries, own, vacant, lowestFree, NoneBelow}
-use Rattle.table.specs.Calls.{Slot, none, at, Ruling, keep, write, ruled, newcomer, slotFrom, slotFor, judgeIn, judgeCall, gate, toll}
+use Rattle.table.specs.Places.{Own, Unknown, Vacant, Full, Taken, kept, taken}
+use Rattle.table.specs.Slots.{Columns, seek, carries, own, vacant, lowestFree}
+use Rattle.table.specs.Calls.{Slot, none, at, Ruling, keep, write, ruled, newcomer, slotFrom, slotFor, judgeIn, judgeCall, toll}
 use Rattle.table.proofs.Cases.{ruled-writes, ruled-keeps}
-use Rattle.table.proofs.Seek.{Lowest, Sought, sought, seek-at, seek-nowhere}
+use Rattle.table.proofs.Seek.{Sought, sought, seek-at, seek-nowhere}
 
 module _ {C P R : Type 0} (K : Columns C R) (q : Query P) (c : C) where
-  -- slot i carries the subscriber's number, and none below it does
-  abbrev pub Own : ℕ → Type 0
-  Own i = Lowest (carries (K .ids c) (q .subscriber)) (K .slots c) i
-
-  -- no slot carries it
-  abbrev pub Unknown : Type 0
-  Unknown = NoneBelow (carries (K .ids c) (q .subscriber)) (K .slots c)
-
-  -- so the own slot is this one, or there is none
-  pub own-at : {i : ℕ} → Own i → own K (q .subscriber) c ≡ At i
+  -- the own slot is the lowest that carries the number, or there is none
+  pub own-at : {i : ℕ} → Own K q c i → own K (q .subscriber) c ≡ At i
   unfolding own
   own-at o = seek-at _ _ _ o
 
-  pub own-nowhere : Unknown → own K (q .subscriber) c ≡ Nowhere
+  pub own-nowhere : Unknown K q c → own K (q .subscriber) c ≡ Nowhere
   unfolding own
   own-nowhere u = seek-nowhere _ _ u
 
@@ -50,18 +43,10 @@ unfolding vacant
 vacant-owes-nothing L K q c i = ap (λ (t : Bool). carries (K .ids c) 0 i || t) (L .free-iff (q .setting) (q .moment) (K .row c i))
 
 module _ {C P R : Type 0} (U : Rule P R) (K : Columns C R) (q : Query P) (c : C) where
-  -- slot i is free, and none below it is
-  abbrev pub Vacant : ℕ → Type 0
-  Vacant i = Lowest (vacant U K (q .setting) (q .moment) c) (K .slots c) i
-
-  -- no slot is free
-  abbrev pub Full : Type 0
-  Full = NoneBelow (vacant U K (q .setting) (q .moment) c) (K .slots c)
-
   pub data Placed (s : Slot R) : Type 0 where
     in-own : (i : ℕ) → Own K q c i → s ≡ at i (K .row c i) → Placed s
-    in-free : (i : ℕ) → Unknown K q c → Vacant i → s ≡ at i (U .fresh (q .setting) (q .moment)) → Placed s
-    nowhere : Unknown K q c → Full → s ≡ none → Placed s
+    in-free : (i : ℕ) → Unknown K q c → Vacant U K q c i → s ≡ at i (U .fresh (q .setting) (q .moment)) → Placed s
+    nowhere : Unknown K q c → Full U K q c → s ≡ none → Placed s
 
   placed-new : (p : Place) → Unknown K q c → Sought (vacant U K (q .setting) (q .moment) c) (K .slots c) p → Placed (newcomer U q p)
   unfolding newcomer
@@ -78,12 +63,7 @@ module _ {C P R : Type 0} (U : Rule P R) (K : Columns C R) (q : Query P) (c : C)
   placed =
       placed-from (seek (carries (K .ids c) (q .subscriber)) (K .slots c)) (sought (carries (K .ids c) (q .subscriber)) (K .slots c))
 
-  -- the slot that an admission takes: its own, or without one the lowest free one
-  pub data Taken (i : ℕ) : Type 0 where
-    kept : Own K q c i → Taken i
-    taken : Unknown K q c → Vacant i → Taken i
-
-  pub taken-within : {i : ℕ} → Taken i → i < K .slots c
+  pub taken-within : {i : ℕ} → Taken U K q c i → i < K .slots c
   taken-within (kept own) = own .within
   taken-within (taken unknown free) = free .within
 

@@ -1,7 +1,7 @@
 -- The length that two columns have in common, what a slot carries, and whether it is free.
 -- Assumes nothing.
 use mathlib.Core.Path.{_≡_, refl, sym, _∙_}
-use mathlib.Core.Bool.{Bool, true, false, cond, _||_}
+use mathlib.Core.Bool.{Bool, true, false, cond}
 use mathlib.Core.List.{List}
 use Prim.Native.Nat.{ℕ, _≤_}
 use native.Mathlib.Omega.{arith}
@@ -14,6 +14,10 @@ use Rattle.table.specs.Slots.{Columns, common, carries, atMost, vacant, 
 pub common-same : (a b : ℕ) → a ≡ b → common a b ≡ a
 unfolding common
 common-same a b e = rw (eq-eqb a b e)
+
+pub common-unequal : (a b : ℕ) → (a ≡ b → ⊥) → common a b ≡ 0
+unfolding common
+common-unequal a b h = rw (ne-eqb a b h)
 
 pub common-equal : (a b : ℕ) → 1 ≤ common a b → a ≡ b
 unfolding common

@@ -2,7 +2,7 @@
 -- subscriber's own or else the lowest free one, leaves every other slot as it was, and makes its moment the newest.
 -- Assumes nothing.
 use mathlib.Core.Path.{_≡_, refl, sym, ap, _∙_}
-use mathlib.Core.Bool.{false, false≢true}
+use mathlib.Core.Bool.{true, false, false≢true}
 use Prim.Native.Nat.{ℕ, _<_}
 use native.Mathlib.Omega.{arith}
 use lib.Dec.{eqb}
@@ -13,20 +13,15 @@ use mathlib.Core.List.{List}
 use Rattle.rate.proofs.Answers.{answered-number}
 use Rattle.table.specs.Request.{Request}
 use Rattle.table.specs.Rule.{Rule}
-use Rattle.table.specs.Slots.{Columns}
+use Rattle.table.specs.Slots.{Columns, carries}
 use Rattle.table.specs.Calls.{Step, Ruling, keep, write, judgeCall, acquire}
+use Rattle.table.specs.Places.{Admission}
+use Rattle.table.specs.Stored.{Stored}
 use Rattle.table.proofs.Outcomes.{acquire-keeps, acquire-writes}
-use Rattle.table.proofs.Placing.{Taken, taken-within, Effect, effect}
-use Rattle.table.proofs.Stored.{Stored}
+use Rattle.table.proofs.Slots.{carries-own}
+use Rattle.table.proofs.Placing.{taken-within, Effect, effect}
 
 module _ {C P R : Type 0} (U : Rule P R) (K : Columns C R) (r : Request P) (c : C) where
-  -- what an admission has written
-  pub record Admission : Type 0 where
-    pub place : ℕ
-    pub held : R
-    pub takes : Taken U K (r .query) c place
-    pub after : acquire U K r c .after ≡ K .put c place (r .query .subscriber) (r .query .moment) held
-
   denied :
       (x : Ruling R) → judgeCall U K r c ≡ x → Effect U K r c x → eqb (acquire U K r c .answer .number) 0 ≡ false →
       acquire U K r c .after ≡ c
@@ -38,17 +33,17 @@ module _ {C P R : Type 0} (U : Rule P R) (K : Columns C R) (r : Request P) (c : 
   pub denied-changes-nothing : eqb (acquire U K r c .answer .number) 0 ≡ false → acquire U K r c .after ≡ c
   denied-changes-nothing = denied (judgeCall U K r c) refl (effect U K r c)
 
-  admission : (x : Ruling R) → judgeCall U K r c ≡ x → Effect U K r c x → acquire U K r c .answer .number ≡ 0 → Admission
+  admission : (x : Ruling R) → judgeCall U K r c ≡ x → Effect U K r c x → acquire U K r c .answer .number ≡ 0 → Admission U K r c
   admission (keep v) e h n =
       let number = ap (λ (s : Step C). s .answer .number) (acquire-keeps U K r c e) ∙ answered-number (r .query .subscriber) v in
       absurd (false≢true (sym h ∙ eq-eqb _ _ (sym number ∙ n)))
   admission (write v i held) e h n =
       record { place = i; held = held; takes = h .place; after = ap (λ (s : Step C). s .after) (acquire-writes U K r c e) }
 
-  pub admission-writes-one : acquire U K r c .answer .number ≡ 0 → Admission
+  pub admission-writes-one : acquire U K r c .answer .number ≡ 0 → Admission U K r c
   admission-writes-one = admission (judgeCall U K r c) refl (effect U K r c)
 
-  module _ (S : Stored K) (a : Admission) where
+  module _ (S : Stored K) (a : Admission U K r c) where
     -- the slot that was taken holds the subscriber and the new record
     pub taken-slot :
         (getD (K .ids (acquire U K r c .after)) (a .place) 0 ≡ r .query .subscriber)
@@ -60,6 +55,16 @@ module _ {C P R : Type 0} (U : Rule P R) (K : Columns C R) (r : Request P) (c : 
               ∙ getD-set-same (K .ids c) (a .place) (r .query .subscriber) 0 (omega (arith, S .ids-length c (omega arith))),
           ap (λ (d : C). K .row d (a .place)) (a .after) ∙ S .row-same c (a .place) (r .query .subscriber) (r .query .moment) (a .held) within,
         )
+
+    -- it lies within the columns, and carries the subscriber's number
+    pub taken-place :
+        (a .place < K .slots (acquire U K r c .after))
+        × (carries (K .ids (acquire U K r c .after)) (r .query .subscriber) (a .place) ≡ true)
+    taken-place =
+        let within = taken-within U K (r .query) c (a .takes) in
+        let slots =
+        ap (λ (d : C). K .slots d) (a .after) ∙ S .slots-put c (a .place) (r .query .subscriber) (r .query .moment) (a .held) in
+        (omega arith, carries-own _ _ _ (taken-slot .0))
 
     -- its moment is the newest
     pub newest-taken : K .newest (acquire U K r c .after) ≡ r .query .moment

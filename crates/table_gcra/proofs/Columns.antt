@@ -7,8 +7,8 @@ use lib.ListN.{length, replicate, length-set, length-replicate}
 use lib.Seq.{getD-set-same, getD-set-other}
 use Rattle.ticks.specs.declared.units.Ticks.{Ticks}
 use Rattle.table.specs.Slots.{common}
+use Rattle.table.specs.Stored.{Stored}
 use Rattle.table.proofs.Slots.{common-equal, common-same}
-use Rattle.table.proofs.Stored.{Stored}
 use Rattle.table_gcra.specs.Table.{Table, columns}
 
 -- a cleared table carries nobody

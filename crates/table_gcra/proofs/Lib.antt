@@ -2,3 +2,4 @@
 pub mod Columns
 pub mod Lengths
 pub mod Worked
+pub mod Laws

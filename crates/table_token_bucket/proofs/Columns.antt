@@ -9,9 +9,10 @@ use lib.Seq.{getD-set-same, getD-set-other}
 use Rattle.rule_token_bucket.specs.declared.Bucket.{Bucket}
 use Rattle.table.specs.Checks.{Gate}
 use Rattle.table.specs.Slots.{common}
-use Rattle.table.proofs.Checks.{Asked, slots-least}
+use Rattle.table.specs.Passed.{Asked}
+use Rattle.table.specs.Stored.{Stored}
+use Rattle.table.proofs.Checks.{slots-least}
 use Rattle.table.proofs.Slots.{common-equal, common-same}
-use Rattle.table.proofs.Stored.{Stored}
 use Rattle.table_token_bucket.specs.Table.{Table, tableOf, columns, Even, Within}
 
 -- a cleared table carries nobody

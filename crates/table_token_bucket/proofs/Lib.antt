@@ -1,3 +1,4 @@
 -- The laws of the token bucket engine's table.
 pub mod Columns
 pub mod Worked
+pub mod Laws

@@ -2,3 +2,5 @@
 pub mod Reading
 pub mod Putting
 pub mod Lengths
+pub mod Exact
+pub mod Laws

@@ -6,3 +6,4 @@ pub mod Streamed
 pub mod LineEnds
 pub mod Lengths
 pub mod Worked
+pub mod Laws

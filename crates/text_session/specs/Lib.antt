@@ -3,3 +3,4 @@ pub mod Session
 pub mod Transcript
 pub mod Stream
 pub mod Worked
+pub mod Laws

@@ -1,7 +1,7 @@
 -- A whole text: the room that it needs, and that header, body and end come to its transcript.
 -- Assumes nothing.
-use mathlib.Core.Path.{_≡_, sym, ap, subst, _∙_}
-use mathlib.Core.List.{List, [], _++_, append-assoc}
+use mathlib.Core.Path.{_≡_, ap, subst, _∙_}
+use mathlib.Core.List.{List, _++_}
 use Prim.Native.Nat.{ℕ, _+_, _-_, _/_, _≤_, _<_}
 use native.Mathlib.Nat.{div-lt-iff-lt-mul, le-div-iff-mul-le}
 use native.Mathlib.Omega.{arith}
@@ -16,19 +16,12 @@ use Rattle.text_session.specs.Session.{textSlots, Lent}
 use Rattle.text_session.specs.Stream.{State, said, after, start, ending, endings}
 use Rattle.text_session.specs.Transcript.{transcript}
 use Rattle.text_session.proofs.Lengths.{said-most, ending-most}
-use Rattle.text_session.proofs.LineEnds.{ending-any}
-use Rattle.text_session.proofs.Streamed.{streamed}
-use Rattle.text_session.proofs.Turning.{bounded-first}
-use Rattle.text_transcript.specs.declared.stream.Session.{Session}
-use Rattle.text_transcript.specs.declared.whole.Transcribed.{Transcribed}
-use Rattle.text_transcript.specs.declared.whole.Transcribed.the-variants.{ShortTable, ShortOutput}
-use Rattle.text_transcript.specs.Running.{Ready, stateOf, started, noTable, endingOf}
-use Rattle.text_transcript.specs.Whole.{room, transcribed, written, lentOf, Lending, Result}
-
--- a line's buffer for a session that starts
-pub ready-start : (s : Session) (line : List ℕ) → s ≡ started → 128 ≤ length line → Ready s line
-ready-start s line e h =
-    subst (λ (x : Session). Ready x line) (sym e) (record { bounded = bounded-first; held-within = omega arith; line-enough = h })
+use Rattle.text_stream.specs.declared.Session.{Session}
+use Rattle.text_stream.specs.Running.{stateOf, started, endingOf}
+use Rattle.text_stream.proofs.Laws.{stream-laws}
+use Rattle.text_transcript.specs.declared.Transcribed.{Transcribed}
+use Rattle.text_transcript.specs.declared.Transcribed.the-variants.{ShortTable, ShortOutput}
+use Rattle.text_transcript.specs.Whole.{room, transcribed, written, lentOf, Result}
 
 module _ (text out : List ℕ) (fits : room text ≤ length out) where
   pub header-fits : length header ≤ length out
@@ -44,10 +37,10 @@ module _ (text out : List ℕ) (fits : room text ≤ length out) where
       (σ : State) {w : ℕ} {o : List ℕ} → Put out 0 (header ++ said σ text) w o → (τ : State) → w + length (ending τ) ≤ length o
   end-fits σ p τ = omega (arith, p .place, put-length p, said-most σ text, ending-most τ, length-append header (said σ text))
 
-module _ (text : List ℕ) (t : Table) (lent : Lent (t .ids) (t .tats)) {s : Session} (e : s ≡ started) (line : List ℕ) where
-  -- a session that starts stands for the start
+-- a session that starts stands for the start
+module _ (text : List ℕ) (t : Table) {s : Session} (e : s ≡ started) (line : List ℕ) where
   start-is : stateOf s line t ≡ start t
-  start-is = ap (λ (x : Session). stateOf x line t) e
+  start-is = ap (λ (x : Session). stateOf x line t) e ∙ stream-laws .starts line t
 
   module _ (s′ : Session) (line′ : List ℕ) {t′ : Table} (m : stateOf s′ line′ t′ ≡ after (stateOf s line t) text) where
     leads : stateOf s′ line′ t′ ≡ after (start t) text
@@ -56,15 +49,10 @@ module _ (text : List ℕ) (t : Table) (lent : Lent (t .ids) (t .tats)) {s : Ses
     pub table-after : t′ ≡ after (start t) text .table
     table-after = ap (λ (σ : State). σ .table) leads
 
-    ending-is : endingOf s′ line′ ≡ ending (after (start t) text)
-    ending-is = sym (ending-any (stateOf s′ line′ t′) noTable) ∙ ap (λ (σ : State). ending σ) leads
-
-    pub text-is : header ++ said (stateOf s line t) text ++ endingOf s′ line′ ≡ transcript text
-    text-is =
-        ap (λ (σ : State). header ++ said σ text ++ endingOf s′ line′) start-is
-        ∙ ap (λ (l : List ℕ). header ++ said (start t) text ++ l) ending-is
-        ∙ append-assoc header (said (start t) text) (ending (after (start t) text))
-        ∙ streamed t text lent
+    pub text-after :
+        Lent (t .ids) (t .tats) → header ++ said (stateOf s line t) text ++ endingOf s′ line′ ≡ transcript text
+    text-after lent =
+        ap (λ (σ : State). header ++ said σ text ++ endingOf s′ line′) start-is ∙ stream-laws .text-is text t lent s′ line′ t′ leads
 
 -- the header is put at the start
 pub header-put : (out : List ℕ) {w : ℕ} {o : List ℕ} → w ≡ length header → o ≡ sets out 0 header → Put out 0 header w o

@@ -1,4 +1,3 @@
--- The laws of the text program's functions.
-pub mod Holding
-pub mod Feeding
+-- The laws of a whole text.
 pub mod Entire
+pub mod Laws

@@ -1,3 +1,3 @@
--- What a reader must believe of the text program's functions.
-pub mod Running
+-- What a reader must believe of a whole text.
 pub mod Whole
+pub mod Laws

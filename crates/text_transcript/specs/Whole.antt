@@ -5,13 +5,13 @@ use Prim.Native.Nat.{ℕ, _+_, _*_}
 use lib.Dec.{leb}
 use lib.ListN.{length}
 use lib.Seq.{sets}
-use Rattle.text_session.specs.Session.{textSlots}
-use Rattle.text_transcript.specs.declared.whole.Transcribed.{Transcribed}
-use Rattle.text_transcript.specs.declared.whole.Transcribed.the-variants.{Written, ShortTable, ShortOutput}
 use Rattle.table_gcra.specs.Table.{Table}
 use Rattle.text_protocol.specs.Reply.{header, mostReply}
+use Rattle.text_session.specs.Session.{textSlots}
 use Rattle.text_session.specs.Transcript.{transcript}
 use Rattle.text_session.specs.Stream.{after, start, endings}
+use Rattle.text_transcript.specs.declared.Transcribed.{Transcribed}
+use Rattle.text_transcript.specs.declared.Transcribed.the-variants.{Written, ShortTable, ShortOutput}
 
 -- an output this long is long enough: the header, and a longest line for each line that ends and for one that does not
 abbrev pub room : List ℕ → ℕ

@@ -8,4 +8,7 @@ pub mod Within
 pub mod Digits
 pub mod Writing
 pub mod WrittenRead
+pub mod Numerals
+pub mod Parts
+pub mod Laws
 pub mod Walking

@@ -3,3 +3,4 @@ pub mod Tests
 pub mod Rounding
 pub mod Limits
 pub mod Products
+pub mod Laws

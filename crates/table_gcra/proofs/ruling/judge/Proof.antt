@@ -14,7 +14,8 @@ use Rattle.table.specs.Request.{Request, requestOf}
 use Rattle.table.specs.Checks.{checkNumber, requestCheck}
 use Rattle.table.specs.Calls.{slotFor, toll}
 use Rattle.table.proofs.Cases.{slot-reads}
-use Rattle.table.proofs.Checks.{Asked, asked-in-force}
+use Rattle.table.specs.Passed.{Asked}
+use Rattle.table.proofs.Checks.{asked-in-force}
 use Rattle.table.proofs.Judging.{request-says, request-asked, asked-equal, judges-refused, judges-keep, judges-write, judges-full}
 use Rattle.table_gcra.specs.declared.slot.Slot.{Slot}
 use Rattle.table_gcra.specs.Table.{Table, tableOf, columns, rule, slotOf, rulingOf}

@@ -1,0 +1,2 @@
+-- The laws of the numbers that a host receives.
+pub mod Laws

@@ -1,0 +1,2 @@
+-- The laws of the GCRA engine's export.
+pub mod Laws

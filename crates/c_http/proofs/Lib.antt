@@ -1,0 +1,2 @@
+-- The laws of the fields' export.
+pub mod Laws

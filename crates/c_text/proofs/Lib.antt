@@ -1,0 +1,2 @@
+-- The laws of the text's export.
+pub mod Laws

@@ -1,0 +1,2 @@
+-- The laws of the token bucket engine's export.
+pub mod Laws

@@ -1,2 +1,0 @@
--- What a reader must believe of the program.
-pub mod Serving
