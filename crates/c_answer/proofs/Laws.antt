@@ -1,8 +1,11 @@
 -- The laws of `specs/Laws`, by computing.
 -- Assumes nothing.
 use mathlib.Core.Path.{refl}
+use Rattle.ticks.specs.declared.plan.Plan.{Plan}
+use Rattle.table.specs.Request.{Query, Request}
+use Rattle.table.specs.Calls.{Step}
 use Rattle.c_answer.specs.Five.{five}
-use Rattle.c_answer.specs.Laws.{Laws}
+use Rattle.c_answer.specs.Laws.{Laws, look, ask, CallPlaces}
 
 pub laws : Laws
 unfolding five
@@ -11,4 +14,16 @@ laws =
       five-places = λ n.
           record { how-many = refl; number = refl; subscriber = refl; left = refl; reset = refl; wait = refl };
       plan-named = λ limit period burst. refl;
+    }
+
+pub call-places :
+    {T : Type 0} (acquire : Request Plan → T → Step T) (peek : Query Plan → T → Step T) (clear : T → Step T) →
+    CallPlaces acquire peek clear
+call-places acquire peek clear =
+    record {
+      acquire-places = λ limit period burst moment subscriber cost t.
+          laws .five-places (acquire (ask limit period burst moment subscriber cost) t .answer);
+      peek-places = λ limit period burst moment subscriber t.
+          laws .five-places (peek (look limit period burst moment subscriber) t .answer);
+      clear-places = λ t. laws .five-places (clear t .answer);
     }

@@ -1,9 +1,13 @@
--- The laws of the five numbers that a host receives: each has its place, in the order of document 01's output line.
+-- The laws of the five numbers that a host receives: each has its place, in the order of document 01's output line. And of the calls
+-- that its plain numbers name, for any table.
 use Prim.Native.Nat.{ℕ}
 use mathlib.Core.Path.{_≡_}
 use mathlib.Core.List.{List}
 use lib.ListN.{length, getD}
+use Rattle.ticks.specs.declared.plan.Plan.{Plan}
 use Rattle.rate.specs.declared.answer.Numbers.{Numbers}
+use Rattle.table.specs.Request.{Query, Request, queryOf, requestOf}
+use Rattle.table.specs.Calls.{Step}
 use Rattle.c_answer.specs.Five.{five, planOf}
 
 -- the numbers of an answer stand in a list at their places
@@ -19,3 +23,24 @@ pub record Laws : Type 0 where
   pub five-places : (n : Numbers) → Places n (five n)
   -- a host names a plan by limit, period and burst, in this order
   pub plan-named : (limit period burst : ℕ) → planOf limit period burst ≡ record { limit = limit; period = period; burst = burst }
+
+-- the look that a host's numbers name, and the ask
+abbrev pub look : ℕ → ℕ → ℕ → ℕ → ℕ → Query Plan
+look limit period burst moment subscriber =
+    record { setting = record { limit = limit; period = period; burst = burst }; moment = moment; subscriber = subscriber }
+
+abbrev pub ask : ℕ → ℕ → ℕ → ℕ → ℕ → ℕ → Request Plan
+ask limit period burst moment subscriber cost = record { query = look limit period burst moment subscriber; cost = cost }
+
+-- what a host receives of the three calls on tables of some kind: the five numbers of the call that it names, each at its place
+pub record CallPlaces
+    {T : Type 0} (acquire : Request Plan → T → Step T) (peek : Query Plan → T → Step T) (clear : T → Step T) : Type 0 where
+  pub acquire-places :
+      (limit period burst moment subscriber cost : ℕ) (t : T) →
+      Places (acquire (ask limit period burst moment subscriber cost) t .answer)
+      (five (acquire (requestOf (planOf limit period burst) moment subscriber cost) t .answer))
+  pub peek-places :
+      (limit period burst moment subscriber : ℕ) (t : T) →
+      Places (peek (look limit period burst moment subscriber) t .answer)
+      (five (peek (queryOf (planOf limit period burst) moment subscriber) t .answer))
+  pub clear-places : (t : T) → Places (clear t .answer) (five (clear t .answer))
