@@ -1,6 +1,6 @@
 -- What a client may rely on: of the fields told of a request's answer, for any account with the backlog law and any columns.
 -- Assumes nothing.
-use mathlib.Core.Path.{_≡_, refl, sym}
+use mathlib.Core.Path.{_≡_, refl, sym, ap}
 use mathlib.Core.Bool.{true, false, false≢true}
 use Prim.Native.Nat.{ℕ, _*_, _≤_}
 use native.Mathlib.Nat.{lt-of-not-le}
@@ -28,11 +28,16 @@ use Rattle.law_calls.proofs.Peek.{peek-own, peek-unknown}
 use Rattle.law_calls.proofs.PeekNumbers.{peek-grounds}
 use Rattle.law_calls.proofs.Wait.{call-least-wait}
 use Rattle.http.specs.Laws.{told, toldOfLook, Kept}
-use Rattle.http.proofs.Least.{retry-least, remaining-most}
+use Rattle.http.proofs.Least.{retry-least, retry-none, remaining-most}
+
+pub never-told :
+    {C P R : Type 0} (A : Account P R) (K : Columns C R) (r : Request P) (c : C) → acquire (ruleOf A) K r c .answer .number ≡ 13 →
+    told A K r c .«retry_after» ≡ 0
+never-told A K r c e = retry-none _ _ _ (ap (λ (n : ℕ). eqb n 8) e)
 
 module _ {C P R : Type 0} {A : Account P R} (L : Balanced A) (K : Columns C R) (r : Request P) (c : C) where
   pub within-plan : Ground A K r c 8 → planOk (A .plan (r .query .setting)) ≡ true
-  within-plan (throttled p i o s a) = L .ok-plan _ (p .asked .plan)
+  within-plan (throttled p i o s a e) = L .ok-plan _ (p .asked .plan)
 
   pub retry-kept : acquire (ruleOf A) K r c .answer .number ≡ 8 → Kept A K r c (told A K r c .«retry_after»)
   retry-kept e =
@@ -40,8 +45,8 @@ module _ {C P R : Type 0} {A : Account P R} (L : Balanced A) (K : Columns C R) (
       let least = call-least-wait L K r c e in
       record {
         positive = lt-of-not-le (λ z. let none = covers 0 .0 z in omega (arith, least .positive));
-        enough = λ k h t. least .enough k (omega (arith, covers (told A K r c .«retry_after») .0 (omega arith))) t;
-        short = λ s h t. least .short (s * 1000) (lt-of-not-le (λ z. let most = covers s .1 z in omega arith)) t;
+        enough = λ k h t. least .onwards k (omega (arith, covers (told A K r c .«retry_after») .0 (omega arith))) t;
+        short = λ s h. least .short (s * 1000) (lt-of-not-le (λ z. let most = covers s .1 z in omega arith));
       }
 
   -- no more is left than the burst
@@ -56,8 +61,8 @@ module _ {C P R : Type 0} {A : Account P R} (L : Balanced A) (K : Columns C R) (
   left-admitted (admitted-new p i u v) = left-within _ (admits-new L K r c p i u v) (admitted-left-most _ _ _ _)
 
   left-throttled : Ground A K r c 8 → acquire (ruleOf A) K r c .answer .left ≤ A .plan (r .query .setting) .burst
-  left-throttled (throttled p i o s a) =
-      left-within _ (waits A K r c p i o s a) (rw (throttled-left _ _ _ _) (reported-left-most _ _ _))
+  left-throttled (throttled p i o s a e) =
+      left-within _ (waits A K r c p i o s a) (rw (throttled-left _ _ _ _ e) (reported-left-most _ _ _))
 
   -- no more remains than the quota
   pub remaining-within : told A K r c .remaining ≤ told A K r c .quota

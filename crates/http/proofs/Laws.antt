@@ -48,6 +48,7 @@ module _ {C P R : Type 0} {A : Account P R} (balanced : Balanced A) {K : Columns
         remaining-within = client.remaining-within balanced K;
         look-remaining-within = client.look-remaining-within balanced K;
         retry-kept = client.retry-kept balanced K;
+        never-told = client.never-told A K;
         reset-kept = renewed.reset-kept balanced K stored;
         look-reset-kept = renewed.look-reset-kept balanced K;
       }

@@ -79,8 +79,7 @@ module _ {C P R : Type 0} (A : Account P R) (K : Columns C R) where
     pub enough :
         (k : ℕ) → delay * 1000 ≤ k → onClock (r .query .moment + k) ≡ true → acquire (ruleOf A) K (later k r) c .answer .number ≡ 0
     -- and one that waits fewer whole seconds must wait again
-    pub short :
-        (s : ℕ) → s < delay → onClock (r .query .moment + s * 1000) ≡ true → acquire (ruleOf A) K (later (s * 1000) r) c .answer .number ≡ 8
+    pub short : (s : ℕ) → s < delay → acquire (ruleOf A) K (later (s * 1000) r) c .answer .number ≡ 8
 
   -- what a reset after so many seconds is worth, of the columns as the call left them
   pub record Renewed (q : Query P) (c : C) (delay : ℕ) : Type 0 where
@@ -88,10 +87,11 @@ module _ {C P R : Type 0} (A : Account P R) (K : Columns C R) where
     pub enough :
         (k : ℕ) → delay * 1000 ≤ k → onClock (q .moment + k) ≡ true →
         acquire (ruleOf A) K (wholeBurst A q (q .moment + k)) c .answer .number ≡ 0
-    -- and one that waits fewer whole seconds must wait
+    -- and one that waits fewer whole seconds must wait, or its wait runs off the clock
     pub short :
         (s : ℕ) → s < delay → onClock (q .moment + s * 1000) ≡ true →
-        acquire (ruleOf A) K (wholeBurst A q (q .moment + s * 1000)) c .answer .number ≡ 8
+        (acquire (ruleOf A) K (wholeBurst A q (q .moment + s * 1000)) c .answer .number ≡ 8)
+        ⊎ (acquire (ruleOf A) K (wholeBurst A q (q .moment + s * 1000)) c .answer .number ≡ 13)
 
   -- what a client may rely on
   pub record ClientLaws : Type 0 where
@@ -100,6 +100,8 @@ module _ {C P R : Type 0} (A : Account P R) (K : Columns C R) where
     pub look-remaining-within : (q : Query P) (c : C) → toldOfLook q c .remaining ≤ toldOfLook q c .quota
     -- Retry-After is enough, and no fewer seconds are
     pub retry-kept : (r : Request P) (c : C) → acquire (ruleOf A) K r c .answer .number ≡ 8 → Kept r c (told r c .«retry_after»)
+    -- a request that is not served while the clock lasts is told none
+    pub never-told : (r : Request P) (c : C) → acquire (ruleOf A) K r c .answer .number ≡ 13 → told r c .«retry_after» ≡ 0
     -- so is the reset, for the whole burst
     pub reset-kept :
         (r : Request P) (c : C) → (acquire (ruleOf A) K r c .answer .number ≡ 0) ⊎ (acquire (ruleOf A) K r c .answer .number ≡ 8) →

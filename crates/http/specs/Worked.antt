@@ -1,5 +1,5 @@
 -- The fields of some answers: three of document 01's lines, 3 units a second with a burst of 2; a unit a minute with a burst
--- of 12, at whole seconds and a millisecond beside them; and a plan outside its limits.
+-- of 12, at whole seconds and a millisecond beside them; a wait that would end beyond the clock; and a plan outside its limits.
 use mathlib.Core.List.{List, [], _∷_}
 use Prim.Native.Nat.{ℕ}
 use Rattle.ticks.specs.declared.plan.Plan.{Plan}
@@ -31,6 +31,7 @@ examples =
     ∷ fieldsOf minute 0 (numbers 8 0 719999 59999)
     ∷ fieldsOf minute 0 (numbers 8 0 720000 60000)
     ∷ fieldsOf minute 0 (numbers 8 0 720001 60001)
+    ∷ fieldsOf minute 4398046511103 (numbers 13 0 0 0)
     ∷ fieldsOf none 1000 (numbers 1 0 0 0)
     ∷ []
 
@@ -42,5 +43,6 @@ expected =
     ∷ fields 12 720 0 720 60
     ∷ fields 12 720 0 720 60
     ∷ fields 12 720 0 721 61
+    ∷ fields 12 720 0 0 0
     ∷ fields 0 0 0 0 0
     ∷ []

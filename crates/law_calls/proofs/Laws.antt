@@ -65,6 +65,7 @@ module _ {C P R : Type 0} {A : Account P R} (balanced : Balanced A) {K : Columns
               admitted-waits-not = zeros.admitted-waits-not A K r c;
               left-now = left.acquire-left-now balanced K stored r c;
               least-wait = wait.call-least-wait balanced K r c;
+              never-served = wait.call-never-served balanced K r c;
               reset-moment = reset.acquire-reset balanced K stored r c;
               cleared-admits = cleared.cleared-number balanced K stored c r;
               peek-after-admission = looks.peek-after-admission balanced K stored r c;

@@ -31,7 +31,7 @@ use Rattle.law_calls.specs.Grounds.{Ground, throttled, admitted, admitte
 use Rattle.law_calls.specs.PeekGrounds.{PeekGround, known, unknown}
 use Rattle.law_calls.specs.Peek.{SameReport}
 use Rattle.law_calls.specs.Left.{asking, LeftNow}
-use Rattle.law_calls.proofs.Numbers.{decides, grounds}
+use Rattle.law_calls.proofs.Numbers.{decides, denies, grounds}
 use Rattle.law_calls.proofs.Peek.{peek-own, peek-unknown, peek-after-admission, peek-of-denied}
 use Rattle.law_calls.proofs.PeekNumbers.{peek-grounds}
 
@@ -60,7 +60,7 @@ module _ {C P R : Type 0} {A : Account P R} (L : Balanced A) (K : Columns C R) (
           enough = λ cost some h.
               decides A K (asking q cost) c L (admitted (payable cost some (omega arith)) i o s (admits-left cost ∙ le-leb _ _ h));
           beyond = λ cost h within.
-              decides A K (asking q cost) c L (throttled (payable cost (omega arith) within) i o s (admits-left cost ∙ lt-leb _ _ h));
+              denies A K (asking q cost) c L (payable cost (omega arith) within) i o s (admits-left cost ∙ lt-leb _ _ h);
         }
 
     peek-left : peek (ruleOf A) K q c .answer .left ≡ remaining (A .plan (q .setting)) backlog
@@ -126,7 +126,7 @@ module _ {C P R : Type 0} {A : Account P R} (L : Balanced A) (K : Columns C R) (
   throttled-left :
       Ground A K r c 8 → acquire (ruleOf A) K r c .after ≡ c → SameReport A K r c →
       LeftNow A K (r .query) (acquire (ruleOf A) K r c .after) (acquire (ruleOf A) K r c .answer .left)
-  throttled-left (throttled p i o s a) after same = rw (after, ← same .left) (peek-own-left L K (r .query) c (p .asked) i o s)
+  throttled-left (throttled p i o s a e) after same = rw (after, ← same .left) (peek-own-left L K (r .query) c (p .asked) i o s)
 
   pub acquire-left-now :
       (acquire (ruleOf A) K r c .answer .number ≡ 0) ⊎ (acquire (ruleOf A) K r c .answer .number ≡ 8) →

@@ -5,9 +5,9 @@ pub mod Cleared
 pub mod Peek
 pub mod PeekCauses
 pub mod PeekNumbers
+pub mod Zeros
 pub mod Newest
 pub mod Wait
 pub mod Reset
 pub mod Left
-pub mod Zeros
 pub mod Laws

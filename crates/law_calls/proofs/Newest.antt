@@ -9,12 +9,8 @@ use native.Mathlib.Omega.{arith}
 use borrow.Author.Tests.{ltb-true, lt-ltb, le-ltb}
 use Rattle.ticks.specs.Grains.{onClock}
 use Rattle.ticks.proofs.Limits.{on-clock}
-use Rattle.rate.specs.declared.answer.Numbers.{Numbers}
-use Rattle.rate.specs.Answer.{answered}
-use Rattle.rate.specs.Decision.{bare}
 use Rattle.rate.specs.Account.{Account}
 use Rattle.rate.specs.Balanced.{Balanced}
-use Rattle.rate.proofs.Answers.{answered-number, answered-left, answered-reset, answered-wait, bare-number, bare-left, bare-reset, bare-wait}
 use Rattle.table.specs.Request.{Query, Request, queryOf}
 use Rattle.table.specs.Checks.{slotsOk}
 use Rattle.table.specs.Rule.{Rule, ruleOf}
@@ -25,7 +21,8 @@ use Rattle.table.specs.Stored.{Stored}
 use Rattle.table.proofs.Cases.{peek-keeps}
 use Rattle.table.proofs.Checks.{asked-or-stopped, asked-since}
 use Rattle.table.proofs.Writes.{admission-writes-one, denied-changes-nothing, newest-taken}
-use Rattle.law_calls.specs.Newest.{Early, Refusal, Written, BeyondClock, Locked}
+use Rattle.law_calls.specs.Newest.{Early, Written, BeyondClock, Locked}
+use Rattle.law_calls.specs.Refusal.{Refusal}
 use Rattle.law_calls.specs.Grounds.{Ground, stopped}
 use Rattle.law_calls.specs.PeekGrounds as looks
 use Rattle.law_calls.specs.PeekGrounds.{PeekGround}
@@ -34,6 +31,7 @@ use Rattle.law_calls.proofs.Cleared.{cleared-newest, unfit-kept}
 use Rattle.law_calls.proofs.Numbers.{grounds}
 use Rattle.law_calls.proofs.PeekCauses.{peek-stopped}
 use Rattle.law_calls.proofs.PeekNumbers.{peek-grounds, clear-0}
+use Rattle.law_calls.proofs.Zeros.{refusal}
 
 -- a moment that is not before one that has passed passes too
 pub asked-later :
@@ -46,19 +44,6 @@ asked-later U K q c m a from t =
       moment = t;
       newest = le-ltb m (K .newest c) (omega (arith, asked-since (gate U K q c) a));
       subscriber = a .subscriber;
-    }
-
-refusal :
-    {C : Type 0} (n subscriber : ℕ) (c : C) (s : Step C) → s .answer ≡ answered subscriber (bare n) → s .after ≡ c →
-    Refusal n subscriber c s
-refusal n subscriber c s e after =
-    record {
-      answer = e;
-      number = ap (λ (x : Numbers). x .number) e ∙ answered-number subscriber (bare n) ∙ bare-number n;
-      left = ap (λ (x : Numbers). x .left) e ∙ answered-left subscriber (bare n) ∙ bare-left n;
-      reset = ap (λ (x : Numbers). x .reset) e ∙ answered-reset subscriber (bare n) ∙ bare-reset n;
-      wait = ap (λ (x : Numbers). x .wait) e ∙ answered-wait subscriber (bare n) ∙ bare-wait n;
-      after = after;
     }
 
 module _ {C P R : Type 0} (U : Rule P R) (K : Columns C R) where

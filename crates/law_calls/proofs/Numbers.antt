@@ -1,22 +1,26 @@
 -- Exactly when each number is given, for any account: what a record is judged to get depends on its fault and its backlog alone.
 -- Assumes nothing.
 use mathlib.Core.Path.{_≡_, refl, sym, ap, subst, _∙_}
+use mathlib.Core.Logic.{_⊎_, inl, inr}
 use mathlib.Core.Bool.{Bool, true, false}
-use Prim.Native.Nat.{ℕ}
+use Prim.Native.Nat.{ℕ, _+_}
 use lib.Dec.{eqb}
 use borrow.Author.Tests.{ltb-false}
+use Rattle.ticks.specs.Grains.{onClock}
+use Rattle.rate.specs.Decision.{Verdict}
 use Rattle.rate.specs.Account.{Account, Judged}
 use Rattle.rate.specs.Balanced.{Balanced, Fault, fine, corrupt}
-use Rattle.rate.proofs.Answers.{bare-number, admitted-number, throttled-number}
+use Rattle.rate.proofs.Answers.{bare-number, admitted-number}
+use Rattle.rate.proofs.ClockEnd.{throttled-8, throttled-13}
 use Rattle.rate.proofs.Cases.{judge-faulty, judge-admitted, judge-throttled}
 use Rattle.rate.proofs.Fresh.{fresh-admits}
 use Rattle.table.specs.Request.{Request}
-use Rattle.table.specs.Rule.{ruleOf, faultAt, admitsAt, freshAt}
+use Rattle.table.specs.Rule.{ruleOf, faultAt, admitsAt, owedAt, waitAt, freshAt}
 use Rattle.table.specs.Slots.{Columns}
 use Rattle.table.specs.Calls.{acquire, toll}
 use Rattle.table.specs.Passed.{Payable}
 use Rattle.table.specs.Places.{Own}
-use Rattle.law_calls.specs.Grounds.{Ground, stopped, zero-cost, cost-above-burst, corrupt-record, throttled, table-full, admitted, admitted-new}
+use Rattle.law_calls.specs.Grounds.{Ground, stopped, zero-cost, cost-above-burst, corrupt-record, throttled, not-on-clock, table-full, admitted, admitted-new}
 use Rattle.law_calls.specs.Causes as rule
 use Rattle.law_calls.specs.Causes.{Cause, verdictOn}
 use Rattle.law_calls.proofs.Causes.{causes, caused}
@@ -30,8 +34,21 @@ module _ {C P R : Type 0} (A : Account P R) (K : Columns C R) (r : Request P) (c
     gets-7 : faultAt A r held ≡ 7 → verdictOn (ruleOf A) r held .number ≡ 7
     gets-7 s = numbered (bare-number _ ∙ s) (judge-faulty A (r .query .setting) (r .query .moment) held (r .cost) (ap (λ (n : ℕ). eqb n 0) s))
 
-    gets-8 : faultAt A r held ≡ 0 → admitsAt A r held ≡ false → verdictOn (ruleOf A) r held .number ≡ 8
-    gets-8 s a = numbered (throttled-number _ _ _ _) (judge-throttled A (r .query .setting) (r .query .moment) held (r .cost) s a)
+    gets-8 :
+        faultAt A r held ≡ 0 → admitsAt A r held ≡ false → onClock (r .query .moment + waitAt A r held) ≡ true →
+        verdictOn (ruleOf A) r held .number ≡ 8
+    gets-8 s a e =
+        numbered (ap (λ (v : Verdict). v .number) (throttled-8 (A .plan (r .query .setting)) (r .query .moment) (owedAt A r held) (r .cost) e))
+        (judge-throttled A (r .query .setting) (r .query .moment) held (r .cost) s a)
+
+    gets-13 :
+        faultAt A r held ≡ 0 → admitsAt A r held ≡ false → onClock (r .query .moment + waitAt A r held) ≡ false →
+        verdictOn (ruleOf A) r held .number ≡ 13
+    gets-13 s a e =
+        numbered
+        (ap (λ (v : Verdict). v .number) (throttled-13 (A .plan (r .query .setting)) (r .query .moment) (owedAt A r held) (r .cost) e)
+        ∙ bare-number 13)
+        (judge-throttled A (r .query .setting) (r .query .moment) held (r .cost) s a)
 
     gets-0 : faultAt A r held ≡ 0 → admitsAt A r held ≡ true → verdictOn (ruleOf A) r held .number ≡ 0
     gets-0 s a = numbered (admitted-number _ _ _ _) (judge-admitted A (r .query .setting) (r .query .moment) held (r .cost) s a)
@@ -48,7 +65,8 @@ module _ {C P R : Type 0} (A : Account P R) (K : Columns C R) (r : Request P) (c
     cause (zero-cost a z) = rule.zero-cost a z
     cause (cost-above-burst a z b) = rule.cost-above-most a z b
     cause (corrupt-record p i o s) = rule.on-own p i o (gets-7 (K .row c i) s)
-    cause (throttled p i o s a) = rule.on-own p i o (gets-8 (K .row c i) s a)
+    cause (throttled p i o s a e) = rule.on-own p i o (gets-8 (K .row c i) s a e)
+    cause (not-on-clock p i o s a e) = rule.on-own p i o (gets-13 (K .row c i) s a e)
     cause (table-full p u f) = rule.table-full p u f
     cause (admitted p i o s a) = rule.on-own p i o (gets-0 (K .row c i) s a)
     cause (admitted-new p i u v) = rule.on-fresh p i u v (fresh-gets-0 p)
@@ -56,12 +74,20 @@ module _ {C P R : Type 0} (A : Account P R) (K : Columns C R) (r : Request P) (c
     on-record :
         {n : ℕ} → Payable (toll (ruleOf A) K r c) → (i : ℕ) → Own K (r .query) c i → verdictOn (ruleOf A) r (K .row c i) .number ≡ n →
         Ground A K r c n
-    on-record {n} p i o e = by (L .faults (r .query .setting) (r .query .moment) (K .row c i)) (admitsAt A r (K .row c i)) refl
+    on-record {n} p i o e =
+        by (L .faults (r .query .setting) (r .query .moment) (K .row c i)) (admitsAt A r (K .row c i)) refl
+        (onClock (r .query .moment + waitAt A r (K .row c i))) refl
       where
-        by : Fault (faultAt A r (K .row c i)) → (a : Bool) → admitsAt A r (K .row c i) ≡ a → Ground A K r c n
-        by (corrupt s) a ea = subst (λ (k : ℕ). Ground A K r c k) (sym (gets-7 (K .row c i) s) ∙ e) (corrupt-record p i o s)
-        by (fine s) false ea = subst (λ (k : ℕ). Ground A K r c k) (sym (gets-8 (K .row c i) s ea) ∙ e) (throttled p i o s ea)
-        by (fine s) true ea = subst (λ (k : ℕ). Ground A K r c k) (sym (gets-0 (K .row c i) s ea) ∙ e) (admitted p i o s ea)
+        got : {k : ℕ} → Ground A K r c k → verdictOn (ruleOf A) r (K .row c i) .number ≡ k → Ground A K r c n
+        got g gets = subst (λ (k : ℕ). Ground A K r c k) (sym gets ∙ e) g
+
+        by :
+            Fault (faultAt A r (K .row c i)) → (a : Bool) → admitsAt A r (K .row c i) ≡ a → (t : Bool) →
+            onClock (r .query .moment + waitAt A r (K .row c i)) ≡ t → Ground A K r c n
+        by (corrupt s) a ea t et = got (corrupt-record p i o s) (gets-7 (K .row c i) s)
+        by (fine s) true ea t et = got (admitted p i o s ea) (gets-0 (K .row c i) s ea)
+        by (fine s) false ea true et = got (throttled p i o s ea et) (gets-8 (K .row c i) s ea et)
+        by (fine s) false ea false et = got (not-on-clock p i o s ea et) (gets-13 (K .row c i) s ea et)
 
     ground : {n : ℕ} → Cause (ruleOf A) K r c n → Ground A K r c n
     ground (rule.stopped s) = stopped s
@@ -76,3 +102,15 @@ module _ {C P R : Type 0} (A : Account P R) (K : Columns C R) (r : Request P) (c
 
     pub grounds : {n : ℕ} → acquire (ruleOf A) K r c .answer .number ≡ n → Ground A K r c n
     grounds e = ground (caused (ruleOf A) K r c e)
+
+    -- what is not admitted must wait, or its wait runs off the clock
+    pub denies :
+        Payable (toll (ruleOf A) K r c) → (i : ℕ) → Own K (r .query) c i → faultAt A r (K .row c i) ≡ 0 → admitsAt A r (K .row c i) ≡ false →
+        (acquire (ruleOf A) K r c .answer .number ≡ 8) ⊎ (acquire (ruleOf A) K r c .answer .number ≡ 13)
+    denies p i o s a = by (onClock (r .query .moment + waitAt A r (K .row c i))) refl
+      where
+        by :
+            (t : Bool) → onClock (r .query .moment + waitAt A r (K .row c i)) ≡ t →
+            (acquire (ruleOf A) K r c .answer .number ≡ 8) ⊎ (acquire (ruleOf A) K r c .answer .number ≡ 13)
+        by true e = inl (decides (throttled p i o s a e))
+        by false e = inr (decides (not-on-clock p i o s a e))

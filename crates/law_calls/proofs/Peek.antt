@@ -128,7 +128,7 @@ module _ {C P R : Type 0} {A : Account P R} (L : Balanced A) (K : Columns C R) (
 -- where an acquire must wait, a peek shows the same left and reset
 module _ {C P R : Type 0} {A : Account P R} (L : Balanced A) (K : Columns C R) (r : Request P) (c : C) where
   same-report : Ground A K r c 8 → SameReport A K r c
-  same-report (throttled p i o s a) =
+  same-report (throttled p i o s a e) =
       let seen =
       peek-own (ruleOf A) K (r .query) c i (p .asked) o
       ∙ ap (λ (v : Verdict). answered (r .query .subscriber) v) (report-sound A (r .query .setting) (r .query .moment) (K .row c i) s) in
@@ -138,11 +138,11 @@ module _ {C P R : Type 0} {A : Account P R} (L : Balanced A) (K : Columns C R) (
         left =
             ap (λ (x : Numbers). x .left) seen ∙ answered-left (r .query .subscriber) look
             ∙ sym (ap (λ (x : Step C). x .answer .left) said ∙ answered-left (r .query .subscriber) (throttledAt A r (K .row c i))
-            ∙ throttled-left (A .plan (r .query .setting)) (r .query .moment) (owedAt A r (K .row c i)) (r .cost));
+            ∙ throttled-left (A .plan (r .query .setting)) (r .query .moment) (owedAt A r (K .row c i)) (r .cost) e);
         reset =
             ap (λ (x : Numbers). x .reset) seen ∙ answered-reset (r .query .subscriber) look
             ∙ sym (ap (λ (x : Step C). x .answer .reset) said ∙ answered-reset (r .query .subscriber) (throttledAt A r (K .row c i))
-            ∙ throttled-reset (A .plan (r .query .setting)) (r .query .moment) (owedAt A r (K .row c i)) (r .cost));
+            ∙ throttled-reset (A .plan (r .query .setting)) (r .query .moment) (owedAt A r (K .row c i)) (r .cost) e);
       }
 
   pub peek-of-denied : acquire (ruleOf A) K r c .answer .number ≡ 8 → SameReport A K r c

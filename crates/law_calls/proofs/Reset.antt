@@ -4,21 +4,21 @@
 use mathlib.Core.Path.{_≡_, sym, ap, subst, _∙_}
 use mathlib.Core.Logic.{_⊎_, inl, inr}
 use mathlib.Core.Bool.{true, false≢true}
-use Prim.Native.Nat.{ℕ, _≤_, _<_}
+use Prim.Native.Nat.{ℕ, _+_, _≤_, _<_}
 use native.Mathlib.Nat.{le-refl, lt-of-not-le}
 use native.Mathlib.Omega.{arith}
 use lib.Dec.{eqb, leb}
 use borrow.Author.Tests.{le-leb, lt-leb, eq-eqb, ne-eqb, eqb-true, le-ltb}
 use Rattle.ticks.specs.Grains.{onClock}
-use Rattle.ticks.proofs.Limits.{within-limits}
+use Rattle.ticks.proofs.Limits.{within-limits, moment-within, on-clock, off-clock}
 use Rattle.rate.specs.declared.answer.Numbers.{Numbers}
 use Rattle.rate.specs.Answer.{answered}
-use Rattle.rate.specs.Decision.{Verdict, reported, resetAt}
+use Rattle.rate.specs.Decision.{Verdict, reported, resetAt, retryAfter}
 use Rattle.rate.specs.Account.{Account}
 use Rattle.rate.specs.Balanced.{Balanced}
 use Rattle.rate.proofs.Answers.{answered-reset, reported-reset}
 use Rattle.rate.proofs.Cases.{report-sound}
-use Rattle.rate.proofs.Reset.{reset-from, burst-from-reset, drained-from-reset}
+use Rattle.rate.proofs.Reset.{reset-from, burst-from-reset, drained-from-reset, burst-wait-ends}
 use Rattle.table.specs.Request.{Query, Request, queryOf}
 use Rattle.table.specs.Rule.{ruleOf}
 use Rattle.table.specs.Slots.{Columns, carries}
@@ -30,7 +30,7 @@ use Rattle.table.proofs.Cases.{held-own, held-fresh}
 use Rattle.table.proofs.Placing.{own-at, own-nowhere}
 use Rattle.table.proofs.Writes.{admission-writes-one, taken-place, denied-changes-nothing}
 use Rattle.law_calls.specs.Reset.{wholeBurst, owed, FirstDrained, WholeBurst, ResetMoment}
-use Rattle.law_calls.specs.Grounds.{Ground, throttled, admitted}
+use Rattle.law_calls.specs.Grounds.{Ground, throttled, not-on-clock, admitted}
 use Rattle.law_calls.specs.Peek.{SameReport}
 use Rattle.law_calls.specs.PeekGrounds.{PeekGround, known, unknown}
 use Rattle.law_calls.proofs.Newest.{asked-later}
@@ -82,6 +82,12 @@ module _ {C P R : Type 0} {A : Account P R} (L : Balanced A) (K : Columns C R) (
     admits-at m from =
         burst-from-reset L (q .setting) (q .moment) (K .row c i) (within-limits (A .plan (q .setting)) (L .ok-plan (q .setting) (a .plan)) .limit-least) s m from
 
+    ends-at :
+        (m : ℕ) → q .moment ≤ m → m ≤ recorded →
+        m + retryAfter (A .plan (q .setting)) (A .backlog (q .setting) m (K .row c i)) (A .plan (q .setting) .burst) ≡ recorded
+    ends-at m from =
+        burst-wait-ends L (q .setting) (q .moment) (K .row c i) (within-limits (A .plan (q .setting)) (L .ok-plan (q .setting) (a .plan)) .limit-least) s m from
+
     own-burst : WholeBurst A K q c recorded
     own-burst =
         let from = reset-from (A .plan (q .setting)) (q .moment) (A .backlog (q .setting) (q .moment) (K .row c i)) in
@@ -89,9 +95,16 @@ module _ {C P R : Type 0} {A : Account P R} (L : Balanced A) (K : Columns C R) (
           enough = λ m h t.
               decides A K (wholeBurst A q m) c L
               (admitted (payable-burst m (omega arith) t) i o (sound-at m (omega arith)) (admits-at m (omega arith) ∙ le-leb _ _ h));
-          short = λ m h l t.
+          short = λ m h l e.
+              let t = moment-within m (omega (arith, on-clock recorded e)) in
               decides A K (wholeBurst A q m) c L
-              (throttled (payable-burst m h t) i o (sound-at m h) (admits-at m h ∙ lt-leb _ _ l));
+              (throttled (payable-burst m h t) i o (sound-at m h) (admits-at m h ∙ lt-leb _ _ l)
+              (ap (λ (end : ℕ). onClock end) (ends-at m h (omega arith)) ∙ e));
+          never = λ m h t e.
+              let l : m < recorded = omega (arith, on-clock m t, off-clock recorded e) in
+              decides A K (wholeBurst A q m) c L
+              (not-on-clock (payable-burst m h t) i o (sound-at m h) (admits-at m h ∙ lt-leb _ _ l)
+              (ap (λ (end : ℕ). onClock end) (ends-at m h (omega arith)) ∙ e));
         }
 
     peek-reset : peek (ruleOf A) K q c .answer .reset ≡ recorded
@@ -153,7 +166,7 @@ module _ {C P R : Type 0} {A : Account P R} (L : Balanced A) (K : Columns C R) (
   throttled-reset :
       Ground A K r c 8 → acquire (ruleOf A) K r c .after ≡ c → SameReport A K r c →
       ResetMoment A K (r .query) (acquire (ruleOf A) K r c .after) (acquire (ruleOf A) K r c .answer .reset)
-  throttled-reset (throttled p i o s a) after same =
+  throttled-reset (throttled p i o s a e) after same =
       rw (after, ← same .reset) (peek-own-reset L K (r .query) c (p .asked) i o s)
 
   pub acquire-reset :

@@ -11,7 +11,7 @@ use Rattle.rate.specs.declared.answer.Numbers.{Numbers}
 use Rattle.rate.specs.Answer.{answered}
 use Rattle.rate.specs.Decision.{Verdict, Zeros, ZerosBeside, bare}
 use Rattle.rate.specs.Account.{Account}
-use Rattle.rate.proofs.Answers.{answered-number, answered-subscriber, answered-left, answered-reset, answered-wait, bare-left, bare-reset, bare-wait}
+use Rattle.rate.proofs.Answers.{answered-number, answered-subscriber, answered-left, answered-reset, answered-wait, bare-number, bare-left, bare-reset, bare-wait}
 use Rattle.rate.proofs.Zeros as record-zeros
 use Rattle.rate.proofs.Zeros.{bare-zeros}
 use Rattle.table.specs.Request.{Query, Request}
@@ -25,6 +25,21 @@ use Rattle.table.proofs.Checks.{payable}
 use Rattle.table.proofs.Outcomes.{refused, full, own-answer, new-answer}
 use Rattle.table.proofs.Placing.{Placed, in-own, in-free, nowhere, placed}
 use Rattle.law_calls.specs.Causes.{verdictOn}
+use Rattle.law_calls.specs.Refusal.{Refusal}
+
+-- a refusal, whole
+pub refusal :
+    {C : Type 0} (n subscriber : ℕ) (c : C) (s : Step C) → s .answer ≡ answered subscriber (bare n) → s .after ≡ c →
+    Refusal n subscriber c s
+refusal n subscriber c s e after =
+    record {
+      answer = e;
+      number = ap (λ (x : Numbers). x .number) e ∙ answered-number subscriber (bare n) ∙ bare-number n;
+      left = ap (λ (x : Numbers). x .left) e ∙ answered-left subscriber (bare n) ∙ bare-left n;
+      reset = ap (λ (x : Numbers). x .reset) e ∙ answered-reset subscriber (bare n) ∙ bare-reset n;
+      wait = ap (λ (x : Numbers). x .wait) e ∙ answered-wait subscriber (bare n) ∙ bare-wait n;
+      after = after;
+    }
 
 -- an answer that is some verdict with a property, for a subscriber
 record Bears (T : Verdict → Type 0) (subscriber : ℕ) (x : Numbers) : Type 0 where

@@ -1,11 +1,12 @@
 -- Document 01, 'When the gate says no', row by row: the ground on which an acquire gets its number, by any account.
-use Prim.Native.Nat.{ℕ}
+use Prim.Native.Nat.{ℕ, _+_}
 use mathlib.Core.Path.{_≡_}
 use mathlib.Core.Bool.{true, false}
 use lib.Dec.{eqb, ltb}
+use Rattle.ticks.specs.Grains.{onClock}
 use Rattle.rate.specs.Account.{Account}
 use Rattle.table.specs.Request.{Request}
-use Rattle.table.specs.Rule.{ruleOf, faultAt, admitsAt}
+use Rattle.table.specs.Rule.{ruleOf, faultAt, admitsAt, waitAt}
 use Rattle.table.specs.Slots.{Columns}
 use Rattle.table.specs.Calls.{gate, toll}
 use Rattle.table.specs.Passed.{Stopped, Asked, Payable}
@@ -20,7 +21,11 @@ module _ {C P R : Type 0} (A : Account P R) (K : Columns C R) (r : Request P) (c
     corrupt-record : Payable (toll (ruleOf A) K r c) → (i : ℕ) → Own K (r .query) c i → faultAt A r (K .row c i) ≡ 7 → Ground 7
     throttled :
         Payable (toll (ruleOf A) K r c) → (i : ℕ) → Own K (r .query) c i → faultAt A r (K .row c i) ≡ 0 →
-        admitsAt A r (K .row c i) ≡ false → Ground 8
+        admitsAt A r (K .row c i) ≡ false → onClock (r .query .moment + waitAt A r (K .row c i)) ≡ true → Ground 8
+    -- document 02, Item 13: in its place where the wait runs off the clock
+    not-on-clock :
+        Payable (toll (ruleOf A) K r c) → (i : ℕ) → Own K (r .query) c i → faultAt A r (K .row c i) ≡ 0 →
+        admitsAt A r (K .row c i) ≡ false → onClock (r .query .moment + waitAt A r (K .row c i)) ≡ false → Ground 13
     table-full : Payable (toll (ruleOf A) K r c) → Unknown K (r .query) c → Full (ruleOf A) K (r .query) c → Ground 9
     admitted :
         Payable (toll (ruleOf A) K r c) → (i : ℕ) → Own K (r .query) c i → faultAt A r (K .row c i) ≡ 0 →

@@ -19,12 +19,13 @@ use Rattle.table.specs.Slots.{Columns, carries, vacant}
 use Rattle.law_calls.specs.Causes.{Cause}
 use Rattle.law_calls.specs.Grounds.{Ground}
 use Rattle.law_calls.specs.Left.{LeftNow}
-use Rattle.law_calls.specs.Newest.{Early, Refusal, Written, BeyondClock, Locked}
+use Rattle.law_calls.specs.Newest.{Early, Written, BeyondClock, Locked}
 use Rattle.law_calls.specs.Peek.{SameReport}
 use Rattle.law_calls.specs.PeekCauses.{PeekCause}
 use Rattle.law_calls.specs.PeekGrounds.{PeekGround}
+use Rattle.law_calls.specs.Refusal.{Refusal}
 use Rattle.law_calls.specs.Reset.{FirstDrained, ResetMoment}
-use Rattle.law_calls.specs.Wait.{LeastWait}
+use Rattle.law_calls.specs.Wait.{LeastWait, NeverServed}
 
 -- of a request on any table, by any rule
 pub record RuleAcquireLaws {C P R : Type 0} (U : Rule P R) (K : Columns C R) (r : Request P) (c : C) : Type 0 where
@@ -110,6 +111,8 @@ pub record AcquireLaws {C P R : Type 0} (A : Account P R) (K : Columns C R) (r :
   -- demand 2: the wait is the least
   pub least-wait :
       acquire (ruleOf A) K r c .answer .number ≡ 8 → LeastWait A K r c (acquire (ruleOf A) K r c .answer .wait)
+  -- document 02, Item 13: under 13 no moment of the clock, from the call on, admits it
+  pub never-served : acquire (ruleOf A) K r c .answer .number ≡ 13 → NeverServed A K r c
   -- demand 2 (document 02, Item 2): the reset is the first moment at which nothing is owed and the whole burst is admitted
   pub reset-moment :
       (acquire (ruleOf A) K r c .answer .number ≡ 0) ⊎ (acquire (ruleOf A) K r c .answer .number ≡ 8) →

@@ -2,6 +2,7 @@
 -- the call left them.
 use Prim.Native.Nat.{ℕ, _≤_, _<_}
 use mathlib.Core.Path.{_≡_}
+use mathlib.Core.Logic.{_⊎_}
 use Rattle.rate.specs.Account.{Account}
 use Rattle.table.specs.Request.{Query, Request}
 use Rattle.table.specs.Rule.{ruleOf}
@@ -17,6 +18,7 @@ pub record LeftNow {C P R : Type 0} (A : Account P R) (K : Columns C R) (q : Que
   pub most : left ≤ A .plan (q .setting) .burst
   -- so much is admitted
   pub enough : (cost : ℕ) → 1 ≤ cost → cost ≤ left → acquire (ruleOf A) K (asking q cost) c .answer .number ≡ 0
-  -- and no more
+  -- and no more: it must wait, or its wait runs off the clock
   pub beyond :
-      (cost : ℕ) → left < cost → cost ≤ A .plan (q .setting) .burst → acquire (ruleOf A) K (asking q cost) c .answer .number ≡ 8
+      (cost : ℕ) → left < cost → cost ≤ A .plan (q .setting) .burst →
+      (acquire (ruleOf A) K (asking q cost) c .answer .number ≡ 8) ⊎ (acquire (ruleOf A) K (asking q cost) c .answer .number ≡ 13)

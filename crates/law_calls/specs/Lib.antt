@@ -3,6 +3,7 @@ pub mod Causes
 pub mod PeekCauses
 pub mod Grounds
 pub mod PeekGrounds
+pub mod Refusal
 pub mod Newest
 pub mod Wait
 pub mod Reset

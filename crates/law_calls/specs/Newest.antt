@@ -4,13 +4,11 @@ use mathlib.Core.Path.{_≡_}
 use mathlib.Core.Bool.{true, false}
 use lib.Dec.{eqb}
 use Rattle.ticks.specs.Grains.{onClock, lastMoment}
-use Rattle.rate.specs.Answer.{answered}
-use Rattle.rate.specs.Decision.{bare}
 use Rattle.table.specs.Request.{Query, Request}
 use Rattle.table.specs.Checks.{slotsOk}
 use Rattle.table.specs.Rule.{Rule}
 use Rattle.table.specs.Slots.{Columns}
-use Rattle.table.specs.Calls.{Step, acquire, peek, clear}
+use Rattle.table.specs.Calls.{acquire, peek, clear}
 
 -- checks 1 to 3 pass, and the moment is before the newest
 pub record Early {C P R : Type 0} (U : Rule P R) (K : Columns C R) (q : Query P) (c : C) : Type 0 where
@@ -18,15 +16,6 @@ pub record Early {C P R : Type 0} (U : Rule P R) (K : Columns C R) (q : Query P)
   pub table : slotsOk (K .slots c) ≡ true
   pub moment : onClock (q .moment) ≡ true
   pub before : q .moment < K .newest c
-
--- a refusal: its number and the subscriber with zeros beside them, and the columns as they were
-pub record Refusal {C : Type 0} (n subscriber : ℕ) (c : C) (s : Step C) : Type 0 where
-  pub answer : s .answer ≡ answered subscriber (bare n)
-  pub number : s .answer .number ≡ n
-  pub left : s .answer .left ≡ 0
-  pub reset : s .answer .reset ≡ 0
-  pub wait : s .answer .wait ≡ 0
-  pub after : s .after ≡ c
 
 module _ {C P R : Type 0} (U : Rule P R) (K : Columns C R) where
   -- who writes the newest moment

@@ -2,7 +2,7 @@
 -- burst is admitted, of the columns as the call left them, with nothing else written meanwhile.
 use Prim.Native.Nat.{ℕ, _≤_, _<_}
 use mathlib.Core.Path.{_≡_}
-use mathlib.Core.Bool.{true}
+use mathlib.Core.Bool.{true, false}
 use Rattle.ticks.specs.Grains.{onClock}
 use Rattle.rate.specs.Account.{Account}
 use Rattle.table.specs.Request.{Query, Request, queryOf, requestOf}
@@ -27,13 +27,16 @@ module _ {C P R : Type 0} (A : Account P R) (K : Columns C R) (q : Query P) (c :
     -- and at any earlier moment something is
     pub owing : (m : ℕ) → q .moment ≤ m → m < reset → 1 ≤ owed m
 
-  -- .. and the first at which the whole burst is admitted, as long as the moment is within the clock's limit
+  -- .. and the first at which the whole burst is admitted
   pub record WholeBurst (reset : ℕ) : Type 0 where
-    -- from then on it is admitted
+    -- from then on it is admitted, at every moment of the clock
     pub enough : (m : ℕ) → reset ≤ m → onClock m ≡ true → acquire (ruleOf A) K (wholeBurst A q m) c .answer .number ≡ 0
     -- and at any earlier moment it must wait
     pub short :
-        (m : ℕ) → q .moment ≤ m → m < reset → onClock m ≡ true → acquire (ruleOf A) K (wholeBurst A q m) c .answer .number ≡ 8
+        (m : ℕ) → q .moment ≤ m → m < reset → onClock reset ≡ true → acquire (ruleOf A) K (wholeBurst A q m) c .answer .number ≡ 8
+    -- if the reset is beyond the clock's limit, it gets 13 at every moment of the clock
+    pub never :
+        (m : ℕ) → q .moment ≤ m → onClock m ≡ true → onClock reset ≡ false → acquire (ruleOf A) K (wholeBurst A q m) c .answer .number ≡ 13
 
   pub record ResetMoment (reset : ℕ) : Type 0 where
     pub first-drained : FirstDrained reset

@@ -15,7 +15,8 @@ use Rattle.rate.specs.Decision.{Verdict, admissible, bare}
 use Rattle.rate.specs.Engine.{Engine}
 use Rattle.rate.specs.Account.{alone, guard}
 use Rattle.rate.specs.Lawful.{Lawful}
-use Rattle.rate.proofs.Answers.{answered-number, bare-number, reported-number, admitted-number, throttled-number}
+use Rattle.rate.proofs.Answers.{answered-number, bare-number, reported-number, admitted-number}
+use Rattle.rate.proofs.ClockEnd.{by-clock-end}
 use Rattle.rate.proofs.Cases.{guard-0, guard-not-0}
 use Rattle.rule_gcra.proofs.Laws.{gcra-lawful}
 use Rattle.rule_token_bucket.proofs.Laws.{token-bucket-lawful}
@@ -89,7 +90,9 @@ module _ (slots : ℕ) where
       by zero e false ef true ea =
           said _ _ 0 (book-decides slots r h e ∙ decide-admitted slots r h (eqb-false _ _ ef) ea) (admitted-number _ _ _ _) (λ z. omega arith)
       by zero e false ef false ea =
-          said _ _ 8 (book-decides slots r h e ∙ decide-throttled slots r h (eqb-false _ _ ef) ea) (throttled-number _ _ _ _) (λ z. omega arith)
+          said _ _ _ (book-decides slots r h e ∙ decide-throttled slots r h (eqb-false _ _ ef) ea) refl
+          (by-clock-end (r .query .setting) (r .query .moment) (callerDebt r h) (r .cost) (λ (v : Verdict). v .number ≡ 7 → ⊥) (λ z. omega arith)
+          (λ z. omega (arith, bare-number 13)))
 
   peek-not-7 : (q : Query Plan) (h : List Entry) → book.peek slots q h .answer .number ≡ 7 → ⊥
   unfolding book.peek

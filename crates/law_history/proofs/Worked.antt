@@ -6,7 +6,7 @@ use mathlib.Core.Path.{_≡_, refl, _∙_}
 use mathlib.Core.List.{[], _∷_}
 use Prim.Native.Nat.{ℕ}
 use Rattle.rate.specs.Answer.{answered}
-use Rattle.rate.specs.Decision.{admissible, remaining, resetAt, retryAfter, bare, reported, admitted, throttled}
+use Rattle.rate.specs.Decision.{admissible, remaining, resetAt, retryAfter, bare, reported, admitted, retryFrom, denied, throttled}
 use Rattle.rate.specs.Account.{guard}
 use Rattle.ticks.specs.Grains.{ticksIn, price, capacity, divUp, oneTo, planOk, onClock}
 use Rattle.table.specs.Checks.{slotsOk, queryCheck, costCheck, requestCheck}
@@ -23,7 +23,7 @@ use Rattle.law_history.specs.Worked.{run, expected, badPlan, refusals}
 use Rattle.law_history.proofs.Demand3.{demand-3}
 
 history-answers : answers (history 1) plan [] run ≡ expected
-unfolding answered admissible remaining resetAt retryAfter bare reported admitted throttled guard ticksIn price capacity divUp oneTo planOk onClock slotsOk queryCheck costCheck requestCheck line book.acquire book.peek book.clear callsOf costs debt owed member names keep owes debtors decide newest history step answers plan run expected
+unfolding answered admissible remaining resetAt retryAfter bare reported admitted retryFrom denied throttled guard ticksIn price capacity divUp oneTo planOk onClock slotsOk queryCheck costCheck requestCheck line book.acquire book.peek book.clear callsOf costs debt owed member names keep owes debtors decide newest history step answers plan run expected
 history-answers = refl
 
 history-refuses : answers (history 1) badPlan [] run ≡ refusals run

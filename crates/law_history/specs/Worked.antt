@@ -1,5 +1,6 @@
--- A run on one slot whose moments fall: after an admission, after a refusal, and after a clear. Some are equal, and some lie
--- beyond the limit. Its answers follow from document 01's rules and document 02, Items 2 and 6.
+-- A run on one slot whose moments fall: after an admission, after a refusal, and after a clear. Some are equal, some lie beyond
+-- the limit, and some so near to it that a wait runs off the clock. Its answers follow from document 01's rules and document 02,
+-- Items 2, 6 and 13.
 use mathlib.Core.List.{List, [], _∷_}
 use Rattle.rate.specs.declared.answer.Numbers.{Numbers}
 use Rattle.ticks.specs.declared.plan.Plan.{Plan}
@@ -34,10 +35,20 @@ run =
     ∷ clear
     ∷ acquire 5 7 2
     ∷ acquire 4 7 1
-    -- after an admission at the last moment none is left
+    -- a wait that ends at the last moment is told, and enough; one that would end later is not on this clock
+    ∷ acquire 4398046510769 7 2
+    ∷ acquire 4398046510769 7 1
+    ∷ acquire 4398046510769 7 2
     ∷ acquire 4398046511103 7 1
+    ∷ acquire 4398046511103 7 1
+    -- after an admission at the last moment none is left
     ∷ acquire 1667 8 1
     ∷ acquire 4398046511104 8 1
+    -- the same wait a millisecond later runs off the clock, and changes nothing
+    ∷ clear
+    ∷ acquire 4398046510770 7 2
+    ∷ acquire 4398046510770 7 1
+    ∷ peek 4398046510770 7
     ∷ []
 
 -- outcome, subscriber, left, reset, wait, under document 01's plan 3 1000 2
@@ -63,9 +74,17 @@ expected =
     ∷ line 0 0 0 0 0
     ∷ line 0 7 0 672 0
     ∷ line 11 7 0 0 0
-    ∷ line 0 7 1 4398046511437 0
+    ∷ line 0 7 0 4398046511436 0
+    ∷ line 8 7 0 4398046511436 334
+    ∷ line 13 7 0 0 0
+    ∷ line 0 7 0 4398046511769 0
+    ∷ line 13 7 0 0 0
     ∷ line 11 8 0 0 0
     ∷ line 3 8 0 0 0
+    ∷ line 0 0 0 0 0
+    ∷ line 0 7 0 4398046511437 0
+    ∷ line 13 7 0 0 0
+    ∷ line 0 7 0 4398046511437 0
     ∷ []
 
 -- a bad plan: burst 0

@@ -11,8 +11,8 @@ use Rattle.rate.specs.declared.answer.Cleared.the-variants.{Done, BadTab
 use Rattle.rate.specs.declared.answer.Outcome.{Outcome}
 use Rattle.rate.specs.declared.answer.Outcome.the-variants.{Admitted, Throttled, Refused}
 use Rattle.rate.specs.declared.answer.Reason.{Reason}
-use Rattle.rate.specs.declared.answer.Reason.the-variants.{BadPlan, BadTable, LateMoment, EarlyMoment, NoSubscriber, ZeroCost, CostAboveBurst, CorruptRecord, TableFull}
-use Rattle.rate.specs.Decision.{Verdict, bare, reported, admitted, throttled, remaining, resetAt, retryAfter}
+use Rattle.rate.specs.declared.answer.Reason.the-variants.{BadPlan, BadTable, LateMoment, EarlyMoment, NoSubscriber, ZeroCost, CostAboveBurst, CorruptRecord, NotOnClock, TableFull}
+use Rattle.rate.specs.Decision.{Verdict, bare, reported, admitted, remaining, resetAt}
 use Rattle.rate.specs.Answer.{reasonNumber, verdictOf, answered, numbersOf, clearedNumbers}
 
 pub bad-plan : reasonNumber BadPlan ≡ 1
@@ -47,6 +47,10 @@ pub corrupt-record : reasonNumber CorruptRecord ≡ 7
 unfolding reasonNumber
 corrupt-record = refl
 
+pub not-on-clock : reasonNumber NotOnClock ≡ 13
+unfolding reasonNumber
+not-on-clock = refl
+
 pub table-full : reasonNumber TableFull ≡ 9
 unfolding reasonNumber
 table-full = refl
@@ -62,6 +66,7 @@ refuses NoSubscriber = refl
 refuses ZeroCost = refl
 refuses CostAboveBurst = refl
 refuses CorruptRecord = refl
+refuses NotOnClock = refl
 refuses TableFull = refl
 
 -- each outcome's numbers
@@ -87,6 +92,10 @@ refused reason = refl
 
 pub corrupt : verdictOf (Refused CorruptRecord) ≡ bare 7
 corrupt = refused CorruptRecord ∙ ap bare corrupt-record
+
+pub bare-is : (n : ℕ) → bare n ≡ record { number = n; left = 0; reset = 0; wait = 0 }
+unfolding bare
+bare-is n = refl
 
 -- the number of each verdict
 pub bare-number : (n : ℕ) → bare n .number ≡ n
@@ -129,14 +138,6 @@ admitted-wait p at backlog cost = reported-wait p at _
 pub admitted-number : (p : Plan) (at backlog cost : ℕ) → admitted p at backlog cost .number ≡ 0
 unfolding admitted
 admitted-number p at backlog cost = reported-number p at _
-
-pub throttled-number : (p : Plan) (at backlog cost : ℕ) → throttled p at backlog cost .number ≡ 8
-unfolding throttled
-throttled-number p at backlog cost = refl
-
-pub throttled-wait : (p : Plan) (at backlog cost : ℕ) → throttled p at backlog cost .wait ≡ retryAfter p backlog cost
-unfolding throttled
-throttled-wait p at backlog cost = refl
 
 -- an answer has the numbers of its verdict
 pub answered-number : (subscriber : ℕ) (v : Verdict) → answered subscriber v .number ≡ v .number

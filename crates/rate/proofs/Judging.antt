@@ -16,7 +16,8 @@ use Rattle.rate.specs.Engine.{Engine}
 use Rattle.rate.specs.Account.{alone, Judged, judge, report, kept, spent, settled}
 use Rattle.rate.specs.Lawful.{Lawful}
 use Rattle.rate.proofs.Alone.{judge-corrupt, judge-admitted, judge-throttled, report-corrupt, report-sound}
-use Rattle.rate.proofs.Answers.{corrupt, bare-number, admitted-number, throttled-number}
+use Rattle.rate.proofs.Answers.{corrupt, bare-number, admitted-number}
+use Rattle.rate.proofs.ClockEnd.{throttled-not-0}
 use Rattle.rate.proofs.Cases.{settled-spent, settled-kept}
 
 -- a judgement of which it is known what it is
@@ -76,7 +77,7 @@ module _ {R : Type 0} {E : Engine R} (L : Lawful E) {p : Plan} {at : ℕ} (r : R
     judges-throttled says passed owes tests unfit e =
         ap (λ (v : Verdict). kept v) (e ∙ ap (λ (b : ℕ). throttled p at b cost) owes)
         ∙ keeps-as _ (judge-throttled E p at r cost (sym says ∙ not-false _ passed) (test owes tests unfit))
-        (ap (λ (n : ℕ). eqb n 0) (throttled-number p at _ cost))
+        (throttled-not-0 p at _ cost)
 
     pub throttle-takes :
         {ok fits : Bool} {owed : ℕ} → InForce p at → ok ≡ E .sound p at r → not ok ≡ false → owed ≡ E .backlog p at r →

@@ -2,14 +2,16 @@
 -- Assumes nothing.
 use mathlib.Core.Path.{_≡_, _∙_}
 use mathlib.Core.Bool.{true}
-use Prim.Native.Nat.{ℕ, _≤_}
+use Prim.Native.Nat.{ℕ, _+_, _≤_}
 use Rattle.ticks.specs.declared.plan.Plan.{Plan}
 use Rattle.ticks.specs.Grains.{capacity, WithinLimits}
-use Rattle.ticks.proofs.Limits.{within-limits}
+use Rattle.ticks.proofs.Limits.{within-limits, moment-within, moment-beyond}
+use Rattle.rate.specs.Decision.{retryAfter}
 use Rattle.rate.specs.Account.{Account}
 use Rattle.rate.specs.Balanced.{Balanced}
-use Rattle.rate.specs.Laws.{ReasonNumbers, OutcomeNumbers, DecisionLaws, VerdictLaws, RecordLaws, FreshLaws}
+use Rattle.rate.specs.Laws.{ReasonNumbers, OutcomeNumbers, RetryLaws, DecisionLaws, VerdictLaws, RecordLaws, FreshLaws}
 use Rattle.rate.proofs.Answers as answers
+use Rattle.rate.proofs.ClockEnd as clock-end
 use Rattle.rate.proofs.Fresh as fresh
 use Rattle.rate.proofs.Left as left
 use Rattle.rate.proofs.Look as look
@@ -28,6 +30,7 @@ reason-numbers =
       zero-cost = answers.zero-cost;
       cost-above-burst = answers.cost-above-burst;
       corrupt-record = answers.corrupt-record;
+      not-on-clock = answers.not-on-clock;
       table-full = answers.table-full;
     }
 
@@ -42,6 +45,15 @@ outcome-numbers =
       unfit-is = answers.unfit-is;
     }
 
+pub retry-laws : RetryLaws
+retry-laws =
+    record {
+      ends-within = λ at wait h. clock-end.retry-within at wait (moment-within (at + wait) h);
+      ends-beyond = λ at wait h. clock-end.retry-beyond at wait (moment-beyond (at + wait) h);
+      denied-8 = clock-end.denied-8;
+      denied-13 = λ left reset. clock-end.denied-13 left reset ∙ answers.bare-is 13;
+    }
+
 pub decision-laws : (p : Plan) (backlog : ℕ) → WithinLimits p → backlog ≤ capacity p → DecisionLaws p backlog
 decision-laws p backlog w within =
     record {
@@ -49,6 +61,9 @@ decision-laws p backlog w within =
       left-most = left.remaining-most p backlog;
       wait-positive = λ cost. wait.wait-positive p backlog cost (w .limit-least);
       wait-most = λ cost. wait.wait-most p backlog cost (w .limit-least) within;
+      throttled-8 = λ at cost h. clock-end.throttled-8 p at backlog cost (moment-within (at + retryAfter p backlog cost) h);
+      throttled-13 = λ at cost h.
+          clock-end.throttled-13 p at backlog cost (moment-beyond (at + retryAfter p backlog cost) h) ∙ answers.bare-is 13;
       reset-is-burst-wait = λ at. reset.reset-is-burst-wait p at backlog;
     }
 
@@ -69,6 +84,7 @@ module _ {P R : Type 0} {A : Account P R} (L : Balanced A) (p : P) (at : ℕ) (o
   record-laws r sound =
       record {
         least-wait = λ cost payable. wait.least-wait L p at r cost (limits .limit-least) payable sound;
+        wait-ends = λ cost payable. wait.wait-ends L p at r cost (limits .limit-least) payable sound;
         burst-from-reset = reset.burst-from-reset L p at r (limits .limit-least) sound;
         drained-from-reset = reset.drained-from-reset L p at r (limits .limit-least) sound;
         admits-left = λ cost.

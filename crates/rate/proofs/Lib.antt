@@ -1,5 +1,6 @@
 -- The laws of this crate, lowest first. What stands above the crate cites these and no definition's text.
 pub mod Answers
+pub mod ClockEnd
 pub mod Left
 pub mod Cases
 pub mod Zeros

@@ -7,12 +7,14 @@ use native.Mathlib.Nat.{add-zero}
 use native.Mathlib.Omega.{arith}
 use borrow.Author.Tests.{le-leb, ne-eqb}
 use Rattle.ticks.specs.declared.plan.Plan.{Plan}
-use Rattle.ticks.specs.Grains.{price, capacity}
+use Rattle.ticks.specs.Grains.{price, capacity, onClock}
 use Rattle.ticks.proofs.Products.{price-none}
-use Rattle.rate.specs.Decision.{admissible, reported, admitted, throttled}
+use Rattle.rate.specs.Decision.{Verdict, admissible, reported, admitted, throttled, retryAfter}
 use Rattle.rate.specs.Account.{Account, judge, report}
 use Rattle.rate.specs.Balanced.{Balanced}
+use Rattle.rate.proofs.Answers.{reported-left, reported-reset}
 use Rattle.rate.proofs.Cases.{judge-faulty, judge-admitted, report-faulty, report-sound}
+use Rattle.rate.proofs.ClockEnd.{throttled-8}
 
 -- nothing costs nothing
 admitted-none : (p : Plan) (at backlog : ℕ) → admitted p at backlog 0 ≡ reported p at backlog
@@ -44,11 +46,10 @@ module _ {P R : Type 0} {A : Account P R} (L : Balanced A) (p : P) (at : ℕ) (r
       report-sound A p at (A .spend p at r cost) (L .spends-sound p at r cost o a)
       ∙ ap (λ (b : ℕ). reported (A .plan p) at b) (L .spends p at r cost a)
 
--- a denial reports what a look shows, and the wait
-pub throttled-left : (p : Plan) (at backlog cost : ℕ) → throttled p at backlog cost .left ≡ reported p at backlog .left
-unfolding throttled reported
-throttled-left p at backlog cost = refl
+-- a denial with a wait reports what a look shows
+module _ (p : Plan) (at backlog cost : ℕ) (e : onClock (at + retryAfter p backlog cost) ≡ true) where
+  pub throttled-left : throttled p at backlog cost .left ≡ reported p at backlog .left
+  throttled-left = ap (λ (v : Verdict). v .left) (throttled-8 p at backlog cost e) ∙ sym (reported-left p at backlog)
 
-pub throttled-reset : (p : Plan) (at backlog cost : ℕ) → throttled p at backlog cost .reset ≡ reported p at backlog .reset
-unfolding throttled reported
-throttled-reset p at backlog cost = refl
+  pub throttled-reset : throttled p at backlog cost .reset ≡ reported p at backlog .reset
+  throttled-reset = ap (λ (v : Verdict). v .reset) (throttled-8 p at backlog cost e) ∙ sym (reported-reset p at backlog)

@@ -14,7 +14,7 @@ use Rattle.ticks.proofs.Tests.{leb-same}
 use Rattle.rate.specs.Decision.{admissible, resetAt, retryAfter}
 use Rattle.rate.specs.Account.{Account}
 use Rattle.rate.specs.Balanced.{Balanced}
-use Rattle.rate.proofs.Wait.{least-wait}
+use Rattle.rate.proofs.Wait.{least-wait, wait-ends}
 
 -- a whole burst is admitted exactly where nothing is owed
 pub burst-iff-nothing-owed : (p : Plan) (backlog : ℕ) → admissible p backlog (p .burst) ≡ eqb backlog 0
@@ -60,3 +60,11 @@ module _
   pub drained-from-reset : eqb (A .backlog p m r) 0 ≡ leb (resetAt (A .plan p) at (A .backlog p at r)) m
   drained-from-reset =
       sym (burst-iff-nothing-owed (A .plan p) (A .backlog p m r)) ∙ sym (L .admits-iff p m r (A .plan p .burst)) ∙ burst-from-reset
+
+  -- until the reset the wait for a whole burst ends there
+  pub burst-wait-ends :
+      m ≤ resetAt (A .plan p) at (A .backlog p at r) →
+      m + retryAfter (A .plan p) (A .backlog p m r) (A .plan p .burst) ≡ resetAt (A .plan p) at (A .backlog p at r)
+  burst-wait-ends until =
+      let reset = reset-is-burst-wait (A .plan p) at (A .backlog p at r) in
+      wait-ends L p at r (A .plan p .burst) rate (omega arith) s m from (omega arith) ∙ sym reset

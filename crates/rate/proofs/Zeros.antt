@@ -7,7 +7,8 @@ use native.Mathlib.Omega.{arith}
 use borrow.Author.Tests.{eq-eqb, ne-eqb}
 use Rattle.rate.specs.Decision.{Verdict, ZerosBeside, bare, reported, admitted, throttled}
 use Rattle.rate.specs.Account.{Account, Judged, judge, report}
-use Rattle.rate.proofs.Answers.{bare-left, bare-reset, bare-wait, reported-number, reported-wait, admitted-number, admitted-wait, throttled-number}
+use Rattle.rate.proofs.Answers.{bare-left, bare-reset, bare-wait, reported-number, reported-wait, admitted-number, admitted-wait}
+use Rattle.rate.proofs.ClockEnd.{by-clock-end}
 use Rattle.rate.proofs.Cases.{judge-faulty, judge-admitted, judge-throttled, report-faulty, report-sound}
 
 pub bare-zeros : (n : ℕ) → ZerosBeside (bare n)
@@ -38,13 +39,14 @@ module _ {P R : Type 0} (A : Account P R) (p : P) (at : ℕ) (r : R) where
   judge-zeros cost =
       judged (λ (v : Verdict). ZerosBeside v) cost bare-zeros
       (number-0 _ (admitted-number (A .plan p) at (A .backlog p at r) cost))
-      (number-8 _ (throttled-number (A .plan p) at (A .backlog p at r) cost))
+      (by-clock-end (A .plan p) at (A .backlog p at r) cost (λ (v : Verdict). ZerosBeside v) (number-8 _ refl) (bare-zeros 13))
 
   pub admitted-waits-not : (cost : ℕ) → judge A p at r cost .verdict .number ≡ 0 → judge A p at r cost .verdict .wait ≡ 0
   admitted-waits-not cost =
       judged (λ (v : Verdict). v .number ≡ 0 → v .wait ≡ 0) cost (λ n e. bare-wait n)
       (λ e. admitted-wait (A .plan p) at (A .backlog p at r) cost)
-      (λ e. absurd (omega (arith, sym e ∙ throttled-number (A .plan p) at (A .backlog p at r) cost)))
+      (by-clock-end (A .plan p) at (A .backlog p at r) cost (λ (v : Verdict). v .number ≡ 0 → v .wait ≡ 0) (λ e. absurd (omega arith))
+      (λ e. bare-wait 13))
 
   -- and what a faulty record's look and a sound one's have is that of a look
   looked : (T : Verdict → Type 0) → ((n : ℕ) → T (bare n)) → T (reported (A .plan p) at (A .backlog p at r)) → T (report A p at r)

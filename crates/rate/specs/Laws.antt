@@ -11,12 +11,13 @@ use Rattle.rate.specs.declared.answer.Answer.{Answer}
 use Rattle.rate.specs.declared.answer.Cleared.the-variants.{Done, BadTable as Unfit}
 use Rattle.rate.specs.declared.answer.Outcome.the-variants.{Admitted, Throttled, Refused}
 use Rattle.rate.specs.declared.answer.Reason.{Reason}
-use Rattle.rate.specs.declared.answer.Reason.the-variants.{BadPlan, BadTable, LateMoment, EarlyMoment, NoSubscriber, ZeroCost, CostAboveBurst, CorruptRecord, TableFull}
-use Rattle.rate.specs.Decision.{Verdict, ZerosBeside, admissible, remaining, resetAt, retryAfter, admitted}
+use Rattle.rate.specs.declared.answer.Reason.the-variants.{BadPlan, BadTable, LateMoment, EarlyMoment, NoSubscriber, ZeroCost, CostAboveBurst, CorruptRecord, NotOnClock, TableFull}
+use Rattle.rate.specs.declared.retry.Retry.the-variants.{After, NotOnClock as OffClock}
+use Rattle.rate.specs.Decision.{Verdict, ZerosBeside, admissible, remaining, resetAt, retryAfter, admitted, retryFrom, denied, throttled}
 use Rattle.rate.specs.Answer.{reasonNumber, verdictOf, numbersOf, clearedNumbers}
 use Rattle.rate.specs.Account.{Account, judge, report}
 
--- document 01, 'When the gate says no', and document 02, Item 6: the number of each cause of a refusal
+-- document 01, 'When the gate says no', and document 02, Items 6 and 13: the number of each cause of a refusal
 pub record ReasonNumbers : Type 0 where
   pub bad-plan : reasonNumber BadPlan ≡ 1
   pub bad-table : reasonNumber BadTable ≡ 2
@@ -26,6 +27,7 @@ pub record ReasonNumbers : Type 0 where
   pub zero-cost : reasonNumber ZeroCost ≡ 5
   pub cost-above-burst : reasonNumber CostAboveBurst ≡ 6
   pub corrupt-record : reasonNumber CorruptRecord ≡ 7
+  pub not-on-clock : reasonNumber NotOnClock ≡ 13
   pub table-full : reasonNumber TableFull ≡ 9
 
 -- .. and of each outcome, with what stands beside it
@@ -44,6 +46,15 @@ pub record OutcomeNumbers : Type 0 where
   pub done-is : clearedNumbers Done ≡ record { number = 0; subscriber = 0; left = 0; reset = 0; wait = 0 }
   pub unfit-is : clearedNumbers Unfit ≡ record { number = 2; subscriber = 0; left = 0; reset = 0; wait = 0 }
 
+-- document 02, Item 13, of any rule that answers 8: a wait that ends by the clock's last moment is told, and one that ends a
+-- millisecond later or more is "not on this clock", which is 13 with zeros
+pub record RetryLaws : Type 0 where
+  pub ends-within : (at wait : ℕ) → at + wait ≤ 4398046511103 → retryFrom at wait ≡ After (record { 0 = wait })
+  pub ends-beyond : (at wait : ℕ) → 4398046511104 ≤ at + wait → retryFrom at wait ≡ OffClock
+  pub denied-8 :
+      (left reset : ℕ) (wait : Millis) → denied left reset (After wait) ≡ record { number = 8; left = left; reset = reset; wait = wait .0 }
+  pub denied-13 : (left reset : ℕ) → denied left reset OffClock ≡ record { number = 13; left = 0; reset = 0; wait = 0 }
+
 -- document 01, 'The decision': what left, reset and wait are worth, of a backlog that a full bucket covers
 pub record DecisionLaws (p : Plan) (backlog : ℕ) : Type 0 where
   -- a cost is admitted exactly if it is at most what is left, which is never above B
@@ -52,6 +63,14 @@ pub record DecisionLaws (p : Plan) (backlog : ℕ) : Type 0 where
   -- a wait is at least 1, and never above cost×P/N rounded up
   pub wait-positive : (cost : ℕ) → admissible p backlog cost ≡ false → 1 ≤ retryAfter p backlog cost
   pub wait-most : (cost : ℕ) → retryAfter p backlog cost ≤ divUp (price p cost) (p .limit)
+  -- what is not admitted gets 8, or 13 if the wait runs off the clock
+  pub throttled-8 :
+      (at cost : ℕ) → at + retryAfter p backlog cost ≤ 4398046511103 →
+      throttled p at backlog cost
+      ≡ record { number = 8; left = remaining p backlog; reset = resetAt p at backlog; wait = retryAfter p backlog cost }
+  pub throttled-13 :
+      (at cost : ℕ) → 4398046511104 ≤ at + retryAfter p backlog cost →
+      throttled p at backlog cost ≡ record { number = 13; left = 0; reset = 0; wait = 0 }
   -- the reset is the end of the wait for a whole burst
   pub reset-is-burst-wait : (at : ℕ) → resetAt p at backlog ≡ at + retryAfter p backlog (p .burst)
 
@@ -69,6 +88,10 @@ pub record RecordLaws {P R : Type 0} (A : Account P R) (p : P) (at : ℕ) (r : R
   pub least-wait :
       (cost : ℕ) → cost ≤ A .plan p .burst → (k : ℕ) →
       A .admits p (at + k) r cost ≡ leb (retryAfter (A .plan p) (A .backlog p at r) cost) k
+  -- .. and until then its wait ends at the same moment
+  pub wait-ends :
+      (cost : ℕ) → cost ≤ A .plan p .burst → (m : ℕ) → at ≤ m → m ≤ at + retryAfter (A .plan p) (A .backlog p at r) cost →
+      m + retryAfter (A .plan p) (A .backlog p m r) cost ≡ at + retryAfter (A .plan p) (A .backlog p at r) cost
   -- .. at any moment from the call on, a whole burst is admitted and nothing is owed exactly if the reset has come
   pub burst-from-reset :
       (m : ℕ) → at ≤ m → A .admits p m r (A .plan p .burst) ≡ leb (resetAt (A .plan p) at (A .backlog p at r)) m

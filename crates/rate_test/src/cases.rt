@@ -39,9 +39,25 @@ pub fn answers() {
     reckon::refused(5, Reason::ZeroCost, shop);
     reckon::refused(6, Reason::CostAboveBurst, shop);
     reckon::refused(7, Reason::CorruptRecord, shop);
-    reckon::refused(8, Reason::TableFull, shop);
+    reckon::refused(8, Reason::NotOnClock, shop);
+    reckon::refused(9, Reason::TableFull, shop);
     reckon::cleared(0, Cleared::Done);
     reckon::cleared(1, Cleared::BadTable);
+}
+
+// Waits that end at the clock's last moment or a millisecond beyond it, and the largest numbers.
+pub fn waits() {
+    reckon::wait(0, 0);
+    reckon::wait(0, 4_398_046_511_103);
+    reckon::wait(0, 4_398_046_511_104);
+    reckon::wait(4_398_046_510_769, 334);
+    reckon::wait(4_398_046_510_770, 334);
+    reckon::wait(4_398_046_511_103, 0);
+    reckon::wait(4_398_046_511_103, 1);
+    reckon::wait(4_398_046_511_104, 0);
+    reckon::wait(0, 18_446_744_073_709_551_615);
+    reckon::wait(18_446_744_073_709_551_615, 0);
+    reckon::wait(18_446_744_073_709_551_615, 18_446_744_073_709_551_615);
 }
 
 pub fn divisions() {

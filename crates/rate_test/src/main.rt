@@ -11,6 +11,8 @@ fn main() {
     cases::plans();
     line::title(b"moments");
     cases::moments();
+    line::title(b"waits");
+    cases::waits();
     line::title(b"division rounded up");
     cases::divisions();
 }

@@ -4,6 +4,7 @@ use rate::answer::Answer;
 use rate::answer::Cleared;
 use rate::answer::Outcome;
 use rate::answer::Reason;
+use rate::retry::Retry;
 use ticks::plan::Plan;
 use ticks::round;
 use ticks::units::Millis;
@@ -45,6 +46,19 @@ pub fn refused(place: u64, reason: Reason, subscriber: u32) {
 pub fn cleared(place: u64, answer: Cleared) {
     line::word(b"cleared");
     line::number(place);
+    line::numbers(answer.to_numbers());
+}
+
+// moment, wait: the five numbers for subscriber 7, with 1 left and reset at 2 if the wait is told
+pub fn wait(now: u64, wait: u64) {
+    let retry = Retry::from(Millis(now), Millis(wait));
+    let answer = Answer {
+        subscriber: 7,
+        outcome: retry.to_outcome(1, Millis(2)),
+    };
+    line::word(b"wait");
+    line::number(now);
+    line::number(wait);
     line::numbers(answer.to_numbers());
 }
 

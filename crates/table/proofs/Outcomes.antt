@@ -10,8 +10,9 @@ use Rattle.rate.specs.Answer.{answered}
 use Rattle.rate.specs.Decision.{Verdict, bare}
 use Rattle.rate.specs.Account.{Account, Judged, judge, settled}
 use Rattle.rate.specs.Balanced.{Balanced}
-use Rattle.rate.proofs.Answers.{bare-number, admitted-number, throttled-number}
+use Rattle.rate.proofs.Answers.{bare-number, admitted-number}
 use Rattle.rate.proofs.Cases.{judge-faulty, judge-admitted, judge-throttled}
+use Rattle.rate.proofs.ClockEnd.{throttled-not-0}
 use Rattle.rate.proofs.Fresh.{fresh-admits}
 use Rattle.table.specs.Request.{Request}
 use Rattle.table.specs.Checks.{requestCheck}
@@ -109,7 +110,7 @@ module _
       (judge-faulty A (r .query .setting) (r .query .moment) (K .row c i) (r .cost) s)
       (ap (λ (n : ℕ). eqb n 0) (bare-number (faultAt A r (K .row c i))) ∙ s))
 
-  -- number 8
+  -- number 8, or 13
   pub waits :
       faultAt A r (K .row c i) ≡ 0 → admitsAt A r (K .row c i) ≡ false →
       acquire (ruleOf A) K r c ≡ stays r c (throttledAt A r (K .row c i))
@@ -118,7 +119,7 @@ module _
       (judged-own (ruleOf A) K r c p o
       ∙ keeps-as i (record { verdict = throttledAt A r (K .row c i); after = K .row c i })
       (judge-throttled A (r .query .setting) (r .query .moment) (K .row c i) (r .cost) s a)
-      (ap (λ (n : ℕ). eqb n 0) (throttled-number (A .plan (r .query .setting)) (r .query .moment) (owedAt A r (K .row c i)) (r .cost))))
+      (throttled-not-0 (A .plan (r .query .setting)) (r .query .moment) (owedAt A r (K .row c i)) (r .cost)))
 
   -- number 0
   pub admits :

@@ -1,7 +1,7 @@
 -- What the table needs of a rule, and no more.
 use Prim.Native.Nat.{ℕ}
 use mathlib.Core.Bool.{Bool}
-use Rattle.rate.specs.Decision.{Verdict, ZerosBeside, admitted, throttled}
+use Rattle.rate.specs.Decision.{Verdict, ZerosBeside, retryAfter, admitted, throttled}
 use Rattle.rate.specs.Account.{Account, Judged, judge, report}
 use Rattle.table.specs.Request.{Request}
 
@@ -57,6 +57,9 @@ module _ {P R : Type 0} (A : Account P R) (r : Request P) (held : R) where
 
   abbrev pub admittedAt : Verdict
   admittedAt = admitted (A .plan (r .query .setting)) (r .query .moment) owedAt (r .cost)
+
+  abbrev pub waitAt : ℕ
+  waitAt = retryAfter (A .plan (r .query .setting)) owedAt (r .cost)
 
   abbrev pub throttledAt : Verdict
   throttledAt = throttled (A .plan (r .query .setting)) (r .query .moment) owedAt (r .cost)

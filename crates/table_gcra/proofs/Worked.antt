@@ -5,7 +5,7 @@ use mathlib.Core.Path.{_≡_, refl}
 use mathlib.Core.List.{[], _∷_}
 use Prim.Native.Nat.{ℕ}
 use Rattle.rate.specs.Answer.{answered}
-use Rattle.rate.specs.Decision.{remaining, resetAt, retryAfter, bare, reported, admitted, throttled}
+use Rattle.rate.specs.Decision.{remaining, resetAt, retryAfter, bare, reported, admitted, retryFrom, denied, throttled}
 use Rattle.rate.specs.Account.{soundness, guard, judge, settled}
 use Rattle.rule_gcra.specs.Gcra.{gcra, fresh, sound, free, later, backlog, admits, spend}
 use Rattle.ticks.specs.Grains.{ticksIn, price, capacity, divUp, oneTo, planOk, onClock}
@@ -16,5 +16,5 @@ use Rattle.table.specs.Worked.{plan, ask, asks, line, answers, burstAnswer, nob
 use Rattle.table_gcra.specs.Table.{tableOf, columns, rule}
 
 pub worked : (id tat newest : ℕ) → examples rule columns (tableOf (id ∷ []) (tat ∷ []) newest) ≡ expected
-unfolding answered remaining resetAt retryAfter bare reported admitted throttled soundness guard judge settled gcra fresh sound free later backlog admits spend ticksIn price capacity divUp oneTo planOk onClock slotsOk queryCheck costCheck requestCheck common seekFrom seek carries own vacant lowestFree ruled newcomer judgeIn commit slotFrom slotFor judgeCall acquire clear plan ask asks line answers burstAnswer nobodyAnswer played examples expected columns
+unfolding answered remaining resetAt retryAfter bare reported admitted retryFrom denied throttled soundness guard judge settled gcra fresh sound free later backlog admits spend ticksIn price capacity divUp oneTo planOk onClock slotsOk queryCheck costCheck requestCheck common seekFrom seek carries own vacant lowestFree ruled newcomer judgeIn commit slotFrom slotFor judgeCall acquire clear plan ask asks line answers burstAnswer nobodyAnswer played examples expected columns
 worked id tat newest = refl

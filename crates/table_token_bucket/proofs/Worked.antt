@@ -6,7 +6,7 @@ use mathlib.Core.Path.{_≡_, refl}
 use mathlib.Core.List.{[], _∷_}
 use Prim.Native.Nat.{ℕ}
 use Rattle.rate.specs.Answer.{answered}
-use Rattle.rate.specs.Decision.{remaining, resetAt, retryAfter, bare, reported, admitted, throttled}
+use Rattle.rate.specs.Decision.{remaining, resetAt, retryAfter, bare, reported, admitted, retryFrom, denied, throttled}
 use Rattle.rate.specs.Account.{soundness, guard, judge, settled}
 use Rattle.ticks.specs.Grains.{ticksIn, price, capacity, divUp, oneTo, planOk, onClock}
 use Rattle.rule_token_bucket.specs.TokenBucket.{tokenBucket, fresh, sound, refilled, free, levelNow, backlog, admits, spend}
@@ -17,5 +17,5 @@ use Rattle.table.specs.Worked.{plan, ask, asks, line, answers, burstAnswer, nob
 use Rattle.table_token_bucket.specs.Table.{tableOf, columns, rule}
 
 pub worked : (id level last newest : ℕ) → examples rule columns (tableOf (id ∷ []) (level ∷ []) (last ∷ []) newest) ≡ expected
-unfolding answered remaining resetAt retryAfter bare reported admitted throttled soundness guard judge settled ticksIn price capacity divUp oneTo planOk onClock tokenBucket fresh sound refilled free levelNow backlog admits spend slotsOk queryCheck costCheck requestCheck common seekFrom seek carries own vacant lowestFree ruled newcomer judgeIn commit slotFrom slotFor judgeCall acquire clear plan ask asks line answers burstAnswer nobodyAnswer played examples expected columns
+unfolding answered remaining resetAt retryAfter bare reported admitted retryFrom denied throttled soundness guard judge settled ticksIn price capacity divUp oneTo planOk onClock tokenBucket fresh sound refilled free levelNow backlog admits spend slotsOk queryCheck costCheck requestCheck common seekFrom seek carries own vacant lowestFree ruled newcomer judgeIn commit slotFrom slotFor judgeCall acquire clear plan ask asks line answers burstAnswer nobodyAnswer played examples expected columns
 worked id level last newest = refl

@@ -3,7 +3,7 @@
 -- Assumes nothing.
 use mathlib.Core.Path.{_≡_, refl}
 use Rattle.rate.specs.Answer.{answered}
-use Rattle.rate.specs.Decision.{remaining, resetAt, retryAfter, bare, reported, admitted, throttled}
+use Rattle.rate.specs.Decision.{remaining, resetAt, retryAfter, bare, reported, admitted, retryFrom, denied, throttled}
 use Rattle.rate.specs.Account.{soundness, guard, judge, settled}
 use Rattle.rule_gcra.specs.Gcra.{gcra, fresh, sound, free, later, backlog, admits, spend}
 use Rattle.ticks.specs.Grains.{ticksIn, price, capacity, divUp, oneTo, planOk, onClock}
@@ -21,5 +21,5 @@ use Rattle.text_session.specs.Transcript.{run, begun, answers, transcrip
 use Rattle.text_session.specs.Worked.{input, expected}
 
 pub worked : transcript input ≡ expected
-unfolding answered remaining resetAt retryAfter bare reported admitted throttled soundness guard judge settled gcra fresh sound free later backlog admits spend ticksIn price capacity divUp oneTo planOk onClock slotsOk queryCheck costCheck requestCheck common seekFrom seek carries own vacant lowestFree ruled newcomer judgeIn commit slotFrom slotFor judgeCall acquire columns longer lines wider fields same isDigit appended more onwards alone decimal digitsUpTo digits cell takenAs takeNumber given then last askOf planOf worded command lineCommand line header opening turn run begun answers transcript input expected
+unfolding answered remaining resetAt retryAfter bare reported admitted retryFrom denied throttled soundness guard judge settled gcra fresh sound free later backlog admits spend ticksIn price capacity divUp oneTo planOk onClock slotsOk queryCheck costCheck requestCheck common seekFrom seek carries own vacant lowestFree ruled newcomer judgeIn commit slotFrom slotFor judgeCall acquire columns longer lines wider fields same isDigit appended more onwards alone decimal digitsUpTo digits cell takenAs takeNumber given then last askOf planOf worded command lineCommand line header opening turn run begun answers transcript input expected
 worked = refl

@@ -6,7 +6,7 @@ use Prim.Native.Nat.{ℕ, _*_, _≤_, _<_}
 use native.Mathlib.Nat.{mul-le-mul, mul-le-mul-left}
 use native.Mathlib.Omega.{arith}
 use lib.Dec.{leb}
-use borrow.Author.Tests.{leb-true, le-leb, lt-leb}
+use borrow.Author.Tests.{leb-true, leb-false, le-leb, lt-leb}
 use Rattle.ticks.specs.declared.plan.Plan.{Plan}
 use Rattle.ticks.specs.Grains.{ticksIn, price, capacity, oneTo, planOk, onClock, mostLimit, mostPeriod, mostBurst, lastMoment, WithinLimits, InForce}
 use Rattle.ticks.proofs.Tests.{both}
@@ -102,6 +102,10 @@ moment-beyond at h = lt-leb at lastMoment (omega arith)
 pub on-clock : (at : ℕ) → onClock at ≡ true → at ≤ lastMoment
 unfolding onClock
 on-clock at e = leb-true _ _ e
+
+pub off-clock : (at : ℕ) → onClock at ≡ false → lastMoment < at
+unfolding onClock
+off-clock at e = leb-false _ _ e
 
 -- checks 1 and 3, passed
 pub in-force : (p : Plan) (at : ℕ) → planOk p ≡ true → onClock at ≡ true → InForce p at

@@ -42,10 +42,15 @@ returns-9 : tie.Need-returns-9
 unfolding reasonNumber
 returns-9 c = sym (ap reasonNumber (c .enum-told9 .given .1))
 
+returns-10 : tie.Need-returns-10
+unfolding reasonNumber
+returns-10 c = sym (ap reasonNumber (c .enum-told10 .given .1))
+
 pub reason-number-spec : {M : Type 1} → statement M
 reason-number-spec =
     tie.close
     (tie.spec
+    (λ c. search needs)
     (λ c. search needs)
     (λ c. search needs)
     (λ c. search needs)
@@ -63,4 +68,5 @@ reason-number-spec =
     returns-6
     returns-7
     returns-8
-    returns-9)
+    returns-9
+    returns-10)
