@@ -47,7 +47,7 @@ fn read(mut words: impl Iterator<Item = String>) -> Option<Options> {
 
 /// How many answers have each number.
 fn numbers(output: &[u8]) -> String {
-    let mut counts = [0; 12];
+    let mut counts = [0; 14];
     for line in output.split(|&byte| byte == b'\n') {
         let number = line.split(|&byte| byte == b'\t').next();
         let number =

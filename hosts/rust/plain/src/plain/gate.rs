@@ -70,6 +70,9 @@ impl Gate {
         if next > now + full {
             let debt = tat.max(now) - now;
             let wait = (next - full - now).div_ceil(self.limit);
+            if moment + wait > LAST_MOMENT {
+                return refused(13);
+            }
             return self.answer(8, subscriber, moment, debt, wait);
         }
         self.subscribers[slot] = subscriber;
