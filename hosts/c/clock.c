@@ -1,7 +1,8 @@
-/* A clock that goes back, and the newest moment that a table keeps: both engines, each on a table of
- * two slots under a plan of 3 units per second with a burst of 2. Each line printed is a call and two
- * answers, GCRA's and the token bucket's (number, subscriber, left, reset, wait), what newest holds
- * afterwards in each table, and whether anything of either table was written.
+/* A clock that goes back, the newest moment that a table keeps, and a clock that ends: both engines,
+ * each on a table of two slots under a plan of 3 units per second with a burst of 2. Each line
+ * printed is a call and two answers, GCRA's and the token bucket's (number, subscriber, left, reset,
+ * wait), what newest holds afterwards in each table, and whether anything of either table was
+ * written.
  *
  *     gcc -std=c11 -o clock clock.c FOLDER/librailcadence_c.a
  */
@@ -120,9 +121,31 @@ static void load(void)
     acquire(last_moment, 8, 1);
 }
 
+/* Who spends both units waits 334 ms for the next. */
+static void run_out(void)
+{
+    clear();
+    acquire(last_moment - 334, 7, 2);
+    acquire(last_moment - 334, 7, 1); /* the wait ends at the last moment: 8, */
+    acquire(last_moment - 334, 7, 2); /* and for both units after it: 13 */
+    acquire(last_moment - 333, 8, 2);
+    acquire(last_moment - 333, 8, 1); /* a millisecond later, 334 ms are too many: 13 */
+    peek(last_moment - 333, 8);
+    acquire(last_moment - 1, 7, 1);
+    acquire(last_moment, 8, 1); /* one tick is missing, and there is no later moment */
+    peek(last_moment, 8);
+    acquire(last_moment, 8, 3); /* 6 comes before 13, */
+    acquire(last_moment, 9, 1); /* and 9 is told as ever */
+    acquire(last_moment, 7, 1);
+    acquire(last_moment, 7, 1);
+    clear(); /* and nothing is owed any more */
+    acquire(last_moment, 8, 1);
+}
+
 int main(void)
 {
     go_back();
     load();
+    run_out();
     return 0;
 }

@@ -11,6 +11,8 @@
 
 #define SLOTS 1
 
+static const uint64_t last_moment = 4398046511103;
+
 struct gate {
     uint32_t limit, period, burst;
     uint32_t ids[SLOTS];
@@ -25,6 +27,7 @@ static const char *status(uint64_t number)
     case RAILCADENCE_ZERO_COST:
     case RAILCADENCE_COST_ABOVE_BURST: return "400 Bad Request";
     case RAILCADENCE_THROTTLED: return "429 Too Many Requests";
+    case RAILCADENCE_NOT_ON_CLOCK: /* there is no time to come back at */
     case RAILCADENCE_TABLE_FULL: return "503 Service Unavailable";
     default: return "500 Internal Server Error";
     }
@@ -70,5 +73,8 @@ int main(void)
     respond(&slow, 500, 7, 1); /* 59,500 ms to wait: 60 seconds */
     respond(&slow, 59500, 7, 1); /* 59 seconds later: not yet */
     respond(&slow, 60500, 7, 1); /* and 60 seconds later */
+    respond(&shop, last_moment - 334, 7, 2);
+    respond(&shop, last_moment - 334, 7, 1); /* 334 ms to wait, to the clock's last moment */
+    respond(&shop, last_moment - 334, 7, 2); /* 667 ms are beyond it: no Retry-After */
     return 0;
 }

@@ -73,13 +73,13 @@
  *                                  before, if nothing else is admitted meanwhile and that moment is
  *                                  within its limit
  *     out[RAILCADENCE_WAIT]        when throttled, the least number of milliseconds after which the
- *                                  same request is admitted, if nothing else is admitted meanwhile
- *                                  and that moment is within its limit; otherwise 0
+ *                                  same request is admitted, if nothing else is admitted meanwhile;
+ *                                  otherwise 0
  *
- *     The first line that applies gives the outcome. Under 1 to 7, 9 and 11, and in the answer to
- *     a clear, left, reset and wait are 0. 'retry' has yes where the same request may simply be
- *     made again later, and no where the caller is at fault and has something to mend first;
- *     railcadence_may_retry says the same.
+ *     The first line that applies gives the outcome. Under 1 to 7, 9, 11 and 13, and in the answer
+ *     to a clear, left, reset and wait are 0. 'retry' has yes where the same request may simply be
+ *     made again later, and no where that does not help: the caller is at fault and has something
+ *     to mend first, or, under 13, the clock ends too soon; railcadence_may_retry says the same.
  *
  *         retry
  *      1  no     RAILCADENCE_BAD_PLAN          limit, period or burst outside its limits
@@ -94,12 +94,19 @@
  *      7  no     RAILCADENCE_CORRUPT_RECORD    the subscriber's own slot holds what no admission up
  *                                              to this moment can have left: the table is damaged,
  *                                              or the plan is another one; clear the table
+ *     13  no     RAILCADENCE_NOT_ON_CLOCK      not now, and the least wait ends above the moment's
+ *                                              limit: it is not served while this clock lasts
  *      8  yes    RAILCADENCE_THROTTLED         not now: wait
  *      9  yes    RAILCADENCE_TABLE_FULL        the subscriber has no slot, and none is free
  *      0         RAILCADENCE_ADMITTED          admitted
  *                RAILCADENCE_REPORTED          of a peek: what is left and the reset; it admits
  *                                              nothing, and there may be 0 left
  *                RAILCADENCE_CLEARED           of a clear: done
+ *
+ *     Under 13 there is no time to come back at. It comes only when less is left of the clock than
+ *     a whole burst takes to be earned: near the moment's limit, or earlier under a plan that takes
+ *     years for that. A smaller cost may be admitted, and after a clear the same one is. Where the
+ *     clock is about to end, clear the table and count moments from a later zero.
  *
  *     Further numbers may come with further rules: treat one that you do not know as a refusal.
  *
@@ -121,7 +128,7 @@
  *
  * EXAMPLE
  *     shop.c beside this file is a short program, example.c a longer one with both engines; clock.c
- *     has a clock that goes back.
+ *     has a clock that goes back, and one that ends.
  */
 #ifndef RAILCADENCE_H
 #define RAILCADENCE_H
@@ -158,7 +165,8 @@ enum {
     RAILCADENCE_CORRUPT_RECORD = 7,
     RAILCADENCE_THROTTLED = 8,
     RAILCADENCE_TABLE_FULL = 9,
-    RAILCADENCE_EARLY_MOMENT = 11
+    RAILCADENCE_EARLY_MOMENT = 11,
+    RAILCADENCE_NOT_ON_CLOCK = 13
 };
 
 /* Whether the same request may simply be made again later: under 8, after the wait, and under 9. */
@@ -257,18 +265,26 @@ void railcadence_transcribe(const uint8_t *text, size_t text_len,
 
 /* What to tell a client over HTTP: RateLimit-Policy: "shop";q=QUOTA;w=WINDOW, RateLimit:
  * "shop";r=REMAINING;t=RESET, and beside status 429 Retry-After: RETRY_AFTER. All times are whole
- * seconds, rounded up. The places of the five numbers in out, and how many there are. */
+ * seconds, rounded up, so what is told may end up to 999 ms after the wait or the reset, and then
+ * above the moment's limit.
+ *
+ * Under 13 the request is not served while the host's clock lasts, so there is no time to come back
+ * at: the status is the host's choice, such as 503, and goes without Retry-After.
+ *
+ * The places of the five numbers in out, and how many there are. */
 enum {
     RAILCADENCE_HTTP_QUOTA = 0,       /* the burst */
     RAILCADENCE_HTTP_WINDOW = 1,      /* in which a whole burst is earned */
     RAILCADENCE_HTTP_REMAINING = 2,   /* under 0 and 8, what is left; otherwise 0 */
     RAILCADENCE_HTTP_RESET = 3,       /* under 0 and 8, from the moment to the reset: a client that
                                        * has a slot and waits so long gets its whole burst, if
-                                       * nothing else is admitted meanwhile, and a second less is
-                                       * not enough; otherwise 0 */
+                                       * nothing else is admitted meanwhile and that moment is
+                                       * within its limit, and a second less is not enough;
+                                       * otherwise 0 */
     RAILCADENCE_HTTP_RETRY_AFTER = 4, /* under 8, the wait: a client that waits so long is admitted,
-                                       * if nothing else is admitted meanwhile, and a second less is
-                                       * not enough; otherwise 0 */
+                                       * if nothing else is admitted meanwhile and that moment is
+                                       * within its limit, and a second less is not enough;
+                                       * otherwise 0 */
     RAILCADENCE_HTTP_FIELDS = 5
 };
 

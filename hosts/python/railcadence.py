@@ -36,15 +36,17 @@ class Number(IntEnum):
     THROTTLED = 8
     TABLE_FULL = 9
     EARLY_MOMENT = 11
+    NOT_ON_CLOCK = 13
 
 
 (ADMITTED, BAD_PLAN, BAD_TABLE, LATE_MOMENT, NO_SUBSCRIBER, ZERO_COST, COST_ABOVE_BURST, CORRUPT_RECORD, THROTTLED,
- TABLE_FULL, EARLY_MOMENT) = Number
+ TABLE_FULL, EARLY_MOMENT, NOT_ON_CLOCK) = Number
 
 
 def may_retry(number: int) -> bool:
     """Whether the same request may simply be made again later: throttled, after the wait, or the table was full. Under any
-    other refusal the caller is at fault, and has something to mend first."""
+    other refusal that does not help: the caller is at fault and has something to mend first, or, under NOT_ON_CLOCK, no
+    moment of this clock will admit the request."""
     return number in (THROTTLED, TABLE_FULL)
 
 
@@ -69,7 +71,8 @@ class Plan(NamedTuple):
 
 class Answer(NamedTuple):
     """The answer to an acquire: what came of it, a `Number` if it is known; the subscriber asked for; units left; the first
-    moment at which nothing is owed; and milliseconds to wait."""
+    moment at which nothing is owed; and when throttled, the least number of milliseconds after which the same request is
+    admitted, if nothing else is admitted meanwhile."""
 
     number: int
     subscriber: int
@@ -94,7 +97,8 @@ class Report(NamedTuple):
 
 class HttpFields(NamedTuple):
     """What an HTTP response says of an answer: RateLimit-Policy's q and w, RateLimit's r and t, and Retry-After. Times are
-    whole seconds, rounded up; Retry-After is 0 unless throttled."""
+    whole seconds, rounded up; Retry-After is 0 unless throttled. Under NOT_ON_CLOCK there is no time to come back at: the
+    status is the host's choice, such as 503, and goes without Retry-After."""
 
     quota: int
     window: int

@@ -1,5 +1,5 @@
-"""Tests of railcadence.py: the worked example's lines, the reset, a clock that goes back, numbers that do not fit or are not
-known, and tables of any size."""
+"""Tests of railcadence.py: the worked example's lines, the reset, a clock that goes back and one that ends, numbers that do
+not fit or are not known, and tables of any size."""
 
 import unittest
 from ctypes import c_uint32, c_uint64
@@ -8,8 +8,8 @@ from pathlib import Path
 from typing import get_type_hints
 
 import railcadence
-from railcadence import (ADMITTED, BAD_TABLE, EARLY_MOMENT, LATE_MOMENT, TABLE_FULL, Answer, Gcra, HttpFields, Number, Plan,
-                         Report, TokenBucket, http_fields, may_retry)
+from railcadence import (ADMITTED, BAD_TABLE, EARLY_MOMENT, LATE_MOMENT, NOT_ON_CLOCK, TABLE_FULL, Answer, Gcra, HttpFields,
+                         Number, Plan, Report, TokenBucket, http_fields, may_retry)
 
 EXAMPLES = Path(__file__).resolve().parents[2] / "examples"
 PLAN = Plan(limit=3, period=1000, burst=2)
@@ -28,13 +28,34 @@ def stored(table):
 
 
 class Calls(unittest.TestCase):
-    def test_the_worked_example(self):
-        plan, *asks = lines("worked.tsv")
-        expected = [Answer(*map(int, fields)) for fields in lines("worked.out")[1:]]
+    def check_example(self, name):
+        plan, *asks = lines(f"{name}.tsv")
+        expected = [Answer(*map(int, fields)) for fields in lines(f"{name}.out")[1:]]
         for engine in ENGINES:
             table = engine(slots=int(plan[1]))
             given = [table.acquire(Plan(*map(int, plan[2:])), *map(int, ask[1:])) for ask in asks]
             self.assertEqual(given, expected)
+
+    def test_the_worked_example(self):
+        self.check_example("worked")
+
+    def test_the_clocks_end(self):
+        self.check_example("clock_end")
+
+    def test_a_wait_beyond_the_clock(self):
+        for engine in ENGINES:
+            table = engine(slots=1)
+            self.assertEqual(table.acquire(PLAN, LAST_MOMENT - 333, 7, 2).number, ADMITTED)
+            before = stored(table)
+            for moment in [LAST_MOMENT - 333, LAST_MOMENT]:
+                refused = table.acquire(PLAN, moment, 7, 1)
+                self.assertEqual(refused, Answer(NOT_ON_CLOCK, 7, 0, 0, 0))
+                self.assertFalse(may_retry(refused.number))
+                self.assertEqual(http_fields(PLAN, moment, refused), HttpFields(2, 1, 0, 0, 0))
+                self.assertEqual(table.peek(PLAN, moment, 7), Report(None, 7, 0, LAST_MOMENT + 334))
+            self.assertEqual(stored(table), before)
+            self.assertIsNone(table.clear())
+            self.assertEqual(table.acquire(PLAN, LAST_MOMENT, 7, 1).number, ADMITTED)
 
     def test_the_whole_burst_is_there_at_the_reset(self):
         for engine in ENGINES:
@@ -83,7 +104,7 @@ class Calls(unittest.TestCase):
         names = {number.name: int(number) for number in Number}
         self.assertEqual(names, {"ADMITTED": 0, "BAD_PLAN": 1, "BAD_TABLE": 2, "LATE_MOMENT": 3, "NO_SUBSCRIBER": 4,
                                  "ZERO_COST": 5, "COST_ABOVE_BURST": 6, "CORRUPT_RECORD": 7, "THROTTLED": 8, "TABLE_FULL": 9,
-                                 "EARLY_MOMENT": 11})
+                                 "EARLY_MOMENT": 11, "NOT_ON_CLOCK": 13})
         for name in names:
             self.assertIs(getattr(railcadence, name), Number[name])
         self.assertEqual([number for number in [*range(20), 2**64 - 1] if may_retry(number)], [8, 9])
@@ -92,14 +113,14 @@ class Calls(unittest.TestCase):
 
     def test_a_number_of_further_rules_stays_a_number(self):
         def further(*arguments):
-            arguments[-1][0] = 13
+            arguments[-1][0] = 17
 
         class Further(Gcra):
             _acquire = _peek = _clear = staticmethod(further)
 
         table = Further(slots=1)
         for number in [table.acquire(PLAN, 1000, 7, 1).number, table.peek(PLAN, 1000, 7).refusal, table.clear()]:
-            self.assertEqual((number, type(number)), (13, int))
+            self.assertEqual((number, type(number)), (17, int))
 
     def test_a_peek_admits_nothing(self):
         for engine in ENGINES:

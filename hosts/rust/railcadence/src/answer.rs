@@ -56,7 +56,7 @@ pub enum Outcome {
         /// and not before, if nothing else is admitted meanwhile and that moment is within its limit.
         reset: u64,
         /// The least number of milliseconds after which the same request is admitted, if nothing else is admitted
-        /// meanwhile and that moment is within its limit.
+        /// meanwhile. It ends within the moment's limit; a request whose wait would not gets [`Reason::NotOnClock`].
         wait: u64,
     },
     /// No, and why. Nothing is spent.
@@ -188,6 +188,6 @@ mod tests {
     fn a_clear_is_done_or_refused() {
         assert_eq!(cleared([0; 5]), Ok(()));
         assert_eq!(cleared([2, 0, 0, 0, 0]), Err(Reason::BadTable));
-        assert_eq!(cleared([13, 0, 0, 0, 0]), Err(Reason::Unknown(13)));
+        assert_eq!(cleared([17, 0, 0, 0, 0]), Err(Reason::Unknown(17)));
     }
 }

@@ -5,10 +5,12 @@ use crate::numbers;
 use crate::plan::Plan;
 use crate::report::Report;
 
-/// The RateLimit fields and Retry-After. Times are whole seconds, rounded up.
+/// The RateLimit fields and Retry-After. Times are whole seconds, rounded up, so what is told may end up to 999 ms after the
+/// wait or the reset, and then above the moment's limit.
 ///
 /// As text they are `RateLimit-Policy: "shop";q=QUOTA;w=WINDOW`, `RateLimit: "shop";r=REMAINING;t=RESET` and, beside status
-/// 429, `Retry-After: RETRY_AFTER`.
+/// 429, `Retry-After: RETRY_AFTER`. Under [`Reason::NotOnClock`](crate::Reason::NotOnClock) there is no time to come back at:
+/// the status is the host's choice, such as 503, and goes without Retry-After.
 #[derive(Clone, Copy, Debug, PartialEq, Eq, Hash)]
 pub struct HttpFields {
     /// The burst; 0 for a plan outside its limits.
@@ -17,7 +19,8 @@ pub struct HttpFields {
     pub window: u64,
     /// Units left; 0 beside a refusal.
     pub remaining: u64,
-    /// From the moment to the reset, after which a client that has a slot gets its whole burst; 0 beside a refusal.
+    /// From the moment to the reset. A client that has a slot and waits so long gets its whole burst, if nothing else is
+    /// admitted meanwhile and that moment is within its limit; a second less is not enough. 0 beside a refusal.
     pub reset: u64,
     /// A client that waits so long is admitted, if nothing else is admitted meanwhile and that moment is within its limit;
     /// a second less is not enough. 0 unless throttled.

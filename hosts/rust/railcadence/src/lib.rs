@@ -25,7 +25,8 @@
 //!
 //! Nothing here reads a clock: a moment is a number of milliseconds from any fixed zero, up to 2^42 − 1. Take all moments of a
 //! table from one clock: one before the newest at which the table admitted anything is refused with
-//! [`Reason::EarlyMoment`]. A clock that never goes back, such as [`std::time::Instant`], suits best.
+//! [`Reason::EarlyMoment`]. A clock that never goes back, such as [`std::time::Instant`], suits best. A request that no moment
+//! up to 2^42 − 1 will admit is not told to wait, but refused with [`Reason::NotOnClock`].
 //!
 //! # Any values may be passed
 //!

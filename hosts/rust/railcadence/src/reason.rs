@@ -34,6 +34,10 @@ pub enum Reason {
     /// The subscriber's own slot holds what no admission up to this moment can have left: the table is damaged, or the plan
     /// is another one.
     CorruptRecord,
+    /// No moment up to 2^42 − 1 milliseconds will admit the request: it is not served while this clock lasts. This comes in
+    /// the place of [`Outcome::Throttled`](crate::Outcome::Throttled), and only when less is left of the clock than a whole
+    /// burst takes to be earned.
+    NotOnClock,
     /// The subscriber has no slot, and none is free.
     TableFull,
     /// A number that this wrapper does not know, as an archive with further rules may give.
@@ -52,6 +56,7 @@ impl Reason {
             7 => Reason::CorruptRecord,
             9 => Reason::TableFull,
             11 => Reason::EarlyMoment,
+            13 => Reason::NotOnClock,
             _ => Reason::Unknown(number),
         }
     }
@@ -68,12 +73,14 @@ impl Reason {
             Reason::CorruptRecord => 7,
             Reason::TableFull => 9,
             Reason::EarlyMoment => 11,
+            Reason::NotOnClock => 13,
             Reason::Unknown(number) => *number,
         }
     }
 
     /// Whether the same request may simply be made again later, which is so of [`Reason::TableFull`]. Under any other reason
-    /// the caller is at fault, and has something to mend first.
+    /// that does not help: the caller is at fault and has something to mend first, or, under [`Reason::NotOnClock`], the clock
+    /// ends too soon.
     pub fn may_retry(&self) -> bool {
         matches!(self, Reason::TableFull)
     }
@@ -105,6 +112,10 @@ impl Display for Reason {
                 "no admission up to this moment can have left the subscriber's record, so the table is damaged or the \
                  plan is another one: clear the table"
             }
+            Reason::NotOnClock => {
+                "no moment up to 4398046511103 will admit the request: ask for less at once, or clear the table and count \
+                 moments from a later zero"
+            }
             Reason::TableFull => {
                 "no slot is the subscriber's own and none is free: try again later, or make the table larger"
             }
@@ -124,7 +135,7 @@ mod tests {
 
     #[test]
     fn a_number_of_further_rules_is_no_panic() {
-        for number in [10, 12, 13, 14, 15, 16, u64::MAX] {
+        for number in [10, 12, 14, 15, 16, u64::MAX] {
             assert_eq!(Reason::from_number(number), Reason::Unknown(number));
         }
     }

@@ -1,4 +1,5 @@
-//! A clock that goes back: both engines refuse a moment before the newest admission, and change nothing.
+//! A clock that goes back, and one that ends: both engines refuse a moment before the newest admission, and a request that no
+//! later moment admits, and change nothing.
 
 use railcadence::{Answer, Gcra, Outcome, Plan, Reason, Report, TokenBucket};
 use std::fmt::Debug;
@@ -6,6 +7,7 @@ use std::fmt::Debug;
 const PLAN: Plan = Plan::new(3, 1000, 2);
 const LAST_MOMENT: u64 = (1 << 42) - 1;
 const EARLY: Outcome = Outcome::Refused(Reason::EarlyMoment);
+const NOT_ON_CLOCK: Outcome = Outcome::Refused(Reason::NotOnClock);
 
 /// A table of two slots, of either engine.
 trait Table: Clone + Debug + PartialEq {
@@ -108,4 +110,57 @@ fn beyond<T: Table>() {
 fn a_stored_newest_moment_is_kept_until_a_clear() {
     beyond::<Gcra>();
     beyond::<TokenBucket>();
+}
+
+/// Who spends both units waits 334 ms for the next: 7 until the last moment, and 8, a millisecond later, for ever.
+fn ended<T: Table>() {
+    let mut table = T::stored(0);
+    assert!(table.acquire(LAST_MOMENT - 334, 7, 2).is_admitted());
+    assert!(table.acquire(LAST_MOMENT - 333, 8, 2).is_admitted());
+    let before = table.clone();
+    for moment in [LAST_MOMENT - 333, LAST_MOMENT - 1] {
+        let (left, reset, wait) = (0, LAST_MOMENT + 333, LAST_MOMENT - moment);
+        let waiting = Outcome::Throttled { left, reset, wait };
+        assert_eq!(table.acquire(moment, 7, 1).outcome, waiting);
+        assert_eq!(table.acquire(moment, 7, 2).outcome, NOT_ON_CLOCK);
+    }
+    for moment in [LAST_MOMENT - 333, LAST_MOMENT] {
+        let asked = table.acquire(moment, 8, 1);
+        let numbers = [13, 8, 0, 0, 0];
+        assert_eq!((asked.outcome, asked.to_numbers()), (NOT_ON_CLOCK, numbers));
+        let seen = table.peek(moment, 8).to_numbers();
+        assert_eq!(seen, [0, 8, 0, LAST_MOMENT + 334, 0]);
+    }
+    assert_eq!(table, before);
+    assert!(table.acquire(LAST_MOMENT, 7, 1).is_admitted());
+    assert_eq!(table.clear(), Ok(()));
+    assert!(table.acquire(LAST_MOMENT, 8, 1).is_admitted());
+}
+
+#[test]
+fn a_wait_beyond_the_clock_is_refused() {
+    ended::<Gcra>();
+    ended::<TokenBucket>();
+}
+
+/// A unit in 31 days, and a million of them at once: they take longer than the clock to be earned, 1642 less than that.
+#[test]
+fn a_plan_may_take_longer_than_the_clock() {
+    let plan = Plan::new(1, 2_678_400_000, 1_000_000);
+    let (mut gcra, mut bucket) = (Gcra::with_slots(1), TokenBucket::with_slots(1));
+    let mut ask = |moment, cost| {
+        let answer = gcra.acquire(&plan, moment, 7, cost);
+        assert_eq!(bucket.acquire(&plan, moment, 7, cost), answer);
+        answer
+    };
+    assert!(ask(0, 1_000_000).is_admitted());
+    let numbers = [8, 7, 0, 2_678_400_000_000_000, 4_397_932_800_000];
+    assert_eq!(ask(0, 1642).to_numbers(), numbers);
+    let off = ask(0, 1643);
+    assert_eq!(
+        (off.outcome, off.outcome.may_retry()),
+        (NOT_ON_CLOCK, false)
+    );
+    assert_eq!(off.http_fields(&plan, 0).retry_after, 0);
+    assert!(ask(4_397_932_800_000, 1642).is_admitted());
 }
