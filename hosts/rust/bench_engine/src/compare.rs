@@ -3,12 +3,23 @@
 use crate::call::{Answer, Ask};
 use crate::contender::{Contender, Engine};
 use crate::load::{Load, PLAN};
+use crate::plain::LAST_MOMENT;
 use crate::table::Table;
 
-/// An ask before the newest moment.
-const EARLY: u64 = 11;
-/// The numbers from 0 to 11.
-pub const NUMBERS: usize = 12;
+/// The numbers from 0 to 13.
+pub const NUMBERS: usize = 14;
+
+/// Asks at the clock's end: moment, subscriber, cost, and the number that is due. Who spends the whole burst of 40 waits
+/// 2286 ms for a unit, subscriber 1 until the last moment, and 2 until one that is beyond it.
+const LAST_ASKS: [(u64, u32, u32, u64); 7] = [
+    (LAST_MOMENT - 2286, 1, 40, 0),
+    (LAST_MOMENT - 2286, 1, 1, 8),
+    (LAST_MOMENT - 2285, 2, 40, 0),
+    (LAST_MOMENT - 2285, 2, 1, 13),
+    (LAST_MOMENT - 1, 1, 1, 8),
+    (LAST_MOMENT, 2, 1, 13),
+    (LAST_MOMENT, 1, 1, 0),
+];
 
 /// What all agree on.
 pub struct Agreed {
@@ -46,10 +57,8 @@ pub fn compare(engine: &Engine, load: &Load) -> Result<Agreed, String> {
         *count.ok_or(format!("no such number: {}", words(ask, &answer)))? += 1;
     }
     ask_too_early(&engine.contenders, &mut tables)?;
-    let [end, index, position] = tables;
-    if end != index || end != position {
-        return Err("the tables differ at the end".to_string());
-    }
+    ask_at_the_clocks_end(&engine.contenders, tables.clone())?;
+    let end = common(tables)?;
     Ok(Agreed { counts, start, end })
 }
 
@@ -63,16 +72,50 @@ fn clear_all(contenders: &[Contender; 3], tables: &mut [Table; 3]) -> Result<(),
     Ok(())
 }
 
-/// The moments of a load never fall. One that does gets the same from all, and leaves the tables as they are.
+/// The moments of a load never fall. One that does gets 11 from all, and leaves the tables as they are.
 fn ask_too_early(contenders: &[Contender; 3], tables: &mut [Table; 3]) -> Result<(), String> {
     let ask = Ask {
         moment: tables[0].newest - 1,
         subscriber: 1,
         cost: 1,
     };
-    let answer = ask_all(contenders, tables, &ask)?;
-    if answer[0] != EARLY {
-        return Err(format!("{EARLY} is due: {}", words(&ask, &answer)));
+    ask_due(contenders, tables, &ask, 11)
+}
+
+/// The moments of a load are far from the clock's end, where nobody owes anything any more.
+fn ask_at_the_clocks_end(
+    contenders: &[Contender; 3],
+    mut tables: [Table; 3],
+) -> Result<(), String> {
+    for (moment, subscriber, cost, number) in LAST_ASKS {
+        let ask = Ask {
+            moment,
+            subscriber,
+            cost,
+        };
+        ask_due(contenders, &mut tables, &ask, number)?;
+    }
+    common(tables).map(|_| ())
+}
+
+/// The table that all leave.
+fn common([proved, index, position]: [Table; 3]) -> Result<Table, String> {
+    if proved != index || proved != position {
+        return Err("the tables differ at the end".to_string());
+    }
+    Ok(proved)
+}
+
+/// Makes an ask that must get this number from all.
+fn ask_due(
+    contenders: &[Contender; 3],
+    tables: &mut [Table; 3],
+    ask: &Ask,
+    number: u64,
+) -> Result<(), String> {
+    let answer = ask_all(contenders, tables, ask)?;
+    if answer[0] != number {
+        return Err(format!("{number} is due: {}", words(ask, &answer)));
     }
     Ok(())
 }

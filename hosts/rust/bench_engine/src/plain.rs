@@ -11,7 +11,7 @@ const MOST_LIMIT: u32 = 1_000_000;
 const MOST_PERIOD: u32 = 2_678_400_000;
 const MOST_BURST: u32 = 1_000_000;
 const MOST_SLOTS: usize = 65_535;
-const LAST_MOMENT: u64 = (1 << 42) - 1;
+pub const LAST_MOMENT: u64 = (1 << 42) - 1;
 
 /// The number of the first check that applies, of 1, 2, 3, 11, 4, 5 and 6.
 fn check(plan: &Plan, slots: Option<usize>, newest: u64, ask: &Ask) -> Option<u64> {
@@ -56,10 +56,13 @@ fn admit(plan: &Plan, ask: &Ask, debt: u64, out: &mut Answer) {
     answer(0, plan, ask, debt, 0, out);
 }
 
-/// What must drain before the cost fits is waited for.
+/// What must drain before the cost fits is waited for, unless the clock ends before that.
 fn throttle(plan: &Plan, ask: &Ask, debt: u64, out: &mut Answer) {
     let excess = debt + price(plan, ask.cost) - full(plan);
     let wait = excess.div_ceil(plan.limit as u64);
+    if ask.moment + wait > LAST_MOMENT {
+        return refuse(13, ask, out);
+    }
     answer(8, plan, ask, debt, wait, out);
 }
 
