@@ -50,7 +50,7 @@ END
 shows day.out 0 3 4 5 6 8 9 10 11
 shows refused-plan.out 1
 shows too-many-slots.out 2
-shows clock_end.out 3 6 8 9 13
+shows clock-end.out 3 6 8 9 13
 
 output=$(mktemp)
 trap 'rm -f "$output"' EXIT

@@ -104,9 +104,9 @@
  *                RAILCADENCE_CLEARED           of a clear: done
  *
  *     Under 13 there is no time to come back at. It comes only when less is left of the clock than
- *     a whole burst takes to be earned: near the moment's limit, or earlier under a plan that takes
- *     years for that. A smaller cost may be admitted, and after a clear the same one is. Where the
- *     clock is about to end, clear the table and count moments from a later zero.
+ *     the cost takes to be earned: near the moment's limit, or earlier under a plan that takes years
+ *     for that. A smaller cost may be admitted, and after a clear the same one is. Where the clock is
+ *     about to end, clear the table and count moments from a later zero.
  *
  *     Further numbers may come with further rules: treat one that you do not know as a refusal.
  *

@@ -40,7 +40,7 @@ class Calls(unittest.TestCase):
         self.check_example("worked")
 
     def test_the_clocks_end(self):
-        self.check_example("clock_end")
+        self.check_example("clock-end")
 
     def test_a_wait_beyond_the_clock(self):
         for engine in ENGINES:

@@ -8,7 +8,7 @@ use Prim.Native.Nat.{ℕ, _+_, _≤_, _<_}
 use native.Mathlib.Omega.{arith}
 use lib.Dec.{leb}
 use borrow.Author.Tests.{le-leb, lt-leb, ltb-false}
-use Rattle.ticks.specs.Grains.{onClock}
+use Rattle.ticks.specs.Grains.{price, divUp, onClock}
 use Rattle.ticks.proofs.Limits.{within-limits, moment-within, on-clock, off-clock}
 use Rattle.rate.specs.Decision.{Verdict}
 use Rattle.rate.specs.Account.{Account}
@@ -57,6 +57,10 @@ module _ {C P R : Type 0} {A : Account P R} (L : Balanced A) (K : Columns C R) (
         (k : ℕ) → waitAt A r (K .row c i) ≤ k → onClock (r .query .moment + k) ≡ true → acquire (ruleOf A) K (later k r) c .answer .number ≡ 0
     admitted-later k w t = decides A K (later k r) c L (admitted (payable-later k t) i o (sound-later k) (admits-later k ∙ le-leb _ _ w))
 
+    most : waitAt A r (K .row c i) ≤ divUp (price (A .plan (r .query .setting)) (r .cost)) (A .plan (r .query .setting) .limit)
+    most =
+        wait-most (A .plan (r .query .setting)) (owedAt A r (K .row c i)) (r .cost) rate (L .within (r .query .setting) (r .query .moment) (K .row c i) s)
+
     least :
         admitsAt A r (K .row c i) ≡ false → onClock (r .query .moment + waitAt A r (K .row c i)) ≡ true →
         LeastWait A K r c (waitAt A r (K .row c i))
@@ -64,7 +68,7 @@ module _ {C P R : Type 0} {A : Account P R} (L : Balanced A) (K : Columns C R) (
         record {
           positive =
               wait-positive (A .plan (r .query .setting)) (owedAt A r (K .row c i)) (r .cost) rate (sym (L .admits-iff (r .query .setting) (r .query .moment) (K .row c i) (r .cost)) ∙ a);
-          most = wait-most (A .plan (r .query .setting)) (owedAt A r (K .row c i)) (r .cost) rate (L .within (r .query .setting) (r .query .moment) (K .row c i) s);
+          most = most;
           ends = e;
           enough = admitted-later (waitAt A r (K .row c i)) (omega arith) e;
           short = λ k w.
@@ -101,6 +105,7 @@ module _ {C P R : Type 0} {A : Account P R} (L : Balanced A) (K : Columns C R) (
         refusal =
             refusal 13 (r .query .subscriber) c (acquire (ruleOf A) K r c) (ap (λ (x : Step C). x .answer) whole) (ap (λ (x : Step C). x .after) whole);
         never = never p i o s e;
+        soon = omega (arith, off-clock (r .query .moment + waitAt A r (K .row c i)) e, most p i o s);
       }
 
   pub call-never-served : acquire (ruleOf A) K r c .answer .number ≡ 13 → NeverServed A K r c

@@ -3,7 +3,7 @@
 use Prim.Native.Nat.{ℕ, _+_, _≤_, _<_}
 use mathlib.Core.Path.{_≡_}
 use mathlib.Core.Bool.{true}
-use Rattle.ticks.specs.Grains.{price, divUp, onClock}
+use Rattle.ticks.specs.Grains.{price, divUp, lastMoment, onClock}
 use Rattle.rate.specs.Account.{Account}
 use Rattle.table.specs.Request.{Request}
 use Rattle.table.specs.Rule.{ruleOf}
@@ -39,3 +39,6 @@ module _ {C P R : Type 0} (A : Account P R) (K : Columns C R) (r : Request P) (c
   pub record NeverServed : Type 0 where
     pub refusal : Refusal 13 (r .query .subscriber) c (acquire (ruleOf A) K r c)
     pub never : (k : ℕ) → onClock (r .query .moment + k) ≡ true → acquire (ruleOf A) K (later k r) c .answer .number ≡ 13
+    -- less is left of the clock than the cost takes to be earned
+    pub soon :
+        lastMoment < r .query .moment + divUp (price (A .plan (r .query .setting)) (r .cost)) (A .plan (r .query .setting) .limit)

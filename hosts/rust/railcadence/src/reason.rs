@@ -35,8 +35,8 @@ pub enum Reason {
     /// is another one.
     CorruptRecord,
     /// No moment up to 2^42 − 1 milliseconds will admit the request: it is not served while this clock lasts. This comes in
-    /// the place of [`Outcome::Throttled`](crate::Outcome::Throttled), and only when less is left of the clock than a whole
-    /// burst takes to be earned.
+    /// the place of [`Outcome::Throttled`](crate::Outcome::Throttled), and only when less is left of the clock than the cost
+    /// takes to be earned.
     NotOnClock,
     /// The subscriber has no slot, and none is free.
     TableFull,
