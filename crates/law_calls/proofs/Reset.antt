@@ -10,7 +10,7 @@ use native.Mathlib.Omega.{arith}
 use lib.Dec.{eqb, leb}
 use borrow.Author.Tests.{le-leb, lt-leb, eq-eqb, ne-eqb, eqb-true, le-ltb}
 use Rattle.ticks.specs.Grains.{onClock}
-use Rattle.ticks.proofs.Limits.{within-limits, moment-within, on-clock, off-clock}
+use Rattle.ticks.proofs.Limits.{within-limits, clock-within, on-clock, off-clock}
 use Rattle.rate.specs.declared.answer.Numbers.{Numbers}
 use Rattle.rate.specs.Answer.{answered}
 use Rattle.rate.specs.Decision.{Verdict, reported, resetAt, retryAfter}
@@ -96,7 +96,7 @@ module _ {C P R : Type 0} {A : Account P R} (L : Balanced A) (K : Columns C R) (
               decides A K (wholeBurst A q m) c L
               (admitted (payable-burst m (omega arith) t) i o (sound-at m (omega arith)) (admits-at m (omega arith) ∙ le-leb _ _ h));
           short = λ m h l e.
-              let t = moment-within m (omega (arith, on-clock recorded e)) in
+              let t = clock-within m (omega (arith, on-clock recorded e)) in
               decides A K (wholeBurst A q m) c L
               (throttled (payable-burst m h t) i o (sound-at m h) (admits-at m h ∙ lt-leb _ _ l)
               (ap (λ (end : ℕ). onClock end) (ends-at m h (omega arith)) ∙ e));

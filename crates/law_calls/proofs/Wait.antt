@@ -9,7 +9,7 @@ use native.Mathlib.Omega.{arith}
 use lib.Dec.{leb}
 use borrow.Author.Tests.{le-leb, lt-leb, ltb-false}
 use Rattle.ticks.specs.Grains.{price, divUp, onClock}
-use Rattle.ticks.proofs.Limits.{within-limits, moment-within, on-clock, off-clock}
+use Rattle.ticks.proofs.Limits.{within-limits, clock-within, on-clock, off-clock}
 use Rattle.rate.specs.Decision.{Verdict}
 use Rattle.rate.specs.Account.{Account}
 use Rattle.rate.specs.Balanced.{Balanced}
@@ -72,7 +72,7 @@ module _ {C P R : Type 0} {A : Account P R} (L : Balanced A) (K : Columns C R) (
           ends = e;
           enough = admitted-later (waitAt A r (K .row c i)) (omega arith) e;
           short = λ k w.
-              let t = moment-within (r .query .moment + k) (omega (arith, on-clock _ e)) in
+              let t = clock-within (r .query .moment + k) (omega (arith, on-clock _ e)) in
               decides A K (later k r) c L
               (throttled (payable-later k t) i o (sound-later k) (admits-later k ∙ lt-leb _ _ w) (ap (λ (end : ℕ). onClock end) (same-end k w) ∙ e));
           onwards = admitted-later;

@@ -9,7 +9,7 @@ use lib.Dec.{eqb}
 use Rattle.ticks.specs.declared.plan.Plan.{Plan}
 use Rattle.ticks.specs.declared.units.Millis.{Millis}
 use Rattle.ticks.specs.Grains.{onClock}
-use Rattle.ticks.proofs.Limits.{moment-within, moment-beyond, on-clock, off-clock}
+use Rattle.ticks.proofs.Limits.{clock-within, clock-beyond, on-clock, off-clock}
 use Rattle.rate.specs.declared.retry.Retry.{Retry}
 use Rattle.rate.specs.declared.retry.Retry.the-variants.{After, NotOnClock}
 use Rattle.rate.specs.Decision.{Verdict, bare, retryFrom, denied, throttled, remaining, resetAt, retryAfter}
@@ -18,12 +18,12 @@ use Rattle.rate.proofs.Answers.{bare-number}
 pub retry-within : (at wait : ℕ) → onClock (at + wait) ≡ true → retryFrom at wait ≡ After (record { 0 = wait })
 unfolding retryFrom
 retry-within at wait e =
-    ap (λ (t : Bool). cond t (After (record { 0 = wait })) NotOnClock) (moment-within _ (omega (arith, on-clock (at + wait) e)))
+    ap (λ (t : Bool). cond t (After (record { 0 = wait })) NotOnClock) (clock-within _ (omega (arith, on-clock (at + wait) e)))
 
 pub retry-beyond : (at wait : ℕ) → onClock (at + wait) ≡ false → retryFrom at wait ≡ NotOnClock
 unfolding retryFrom
 retry-beyond at wait e =
-    ap (λ (t : Bool). cond t (After (record { 0 = wait })) NotOnClock) (moment-beyond _ (omega (arith, off-clock (at + wait) e)))
+    ap (λ (t : Bool). cond t (After (record { 0 = wait })) NotOnClock) (clock-beyond _ (omega (arith, off-clock (at + wait) e)))
 
 -- what a rule answers in either case
 pub denied-8 :

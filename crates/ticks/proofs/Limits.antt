@@ -91,13 +91,14 @@ module _ (p : Plan) where
   pub burst-beyond : 1000001 ≤ p .burst → planOk p ≡ false
   burst-beyond h = bad-burst (one-to-beyond mostBurst (p .burst) (omega arith))
 
-pub moment-within : (at : ℕ) → at ≤ 4398046511103 → onClock at ≡ true
+-- the clock's limit, and its number
+pub clock-within : (at : ℕ) → at ≤ lastMoment → onClock at ≡ true
 unfolding onClock
-moment-within at h = le-leb at lastMoment (omega arith)
+clock-within at h = le-leb at lastMoment h
 
-pub moment-beyond : (at : ℕ) → 4398046511104 ≤ at → onClock at ≡ false
+pub clock-beyond : (at : ℕ) → lastMoment < at → onClock at ≡ false
 unfolding onClock
-moment-beyond at h = lt-leb at lastMoment (omega arith)
+clock-beyond at h = lt-leb at lastMoment h
 
 pub on-clock : (at : ℕ) → onClock at ≡ true → at ≤ lastMoment
 unfolding onClock
@@ -106,6 +107,12 @@ on-clock at e = leb-true _ _ e
 pub off-clock : (at : ℕ) → onClock at ≡ false → lastMoment < at
 unfolding onClock
 off-clock at e = leb-false _ _ e
+
+pub moment-within : (at : ℕ) → at ≤ 4398046511103 → onClock at ≡ true
+moment-within at h = clock-within at (omega arith)
+
+pub moment-beyond : (at : ℕ) → 4398046511104 ≤ at → onClock at ≡ false
+moment-beyond at h = clock-beyond at (omega arith)
 
 -- checks 1 and 3, passed
 pub in-force : (p : Plan) (at : ℕ) → planOk p ≡ true → onClock at ≡ true → InForce p at
