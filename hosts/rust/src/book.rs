@@ -2,7 +2,7 @@
 //! and the calls, and nothing that an engine answers or stores.
 
 use crate::checks::{self, MOST_SLOTS};
-use crate::decision::{refusal, settled, waiting, Verdict};
+use crate::decision::{denied, refusal, settled, Verdict};
 use crate::plan::Plan;
 use crate::table::{answer, Answer};
 use std::collections::BTreeMap;
@@ -97,7 +97,7 @@ impl Book {
         let debt = self.debt(subscriber, s);
         let after = debt + self.plan.period * cost;
         if after > self.plan.full() {
-            return waiting(&self.plan, s, debt, cost);
+            return denied(&self.plan, s, debt, cost);
         }
         self.lists.entry(subscriber).or_default().push(Admitted {
             moment: s as i128,
@@ -116,7 +116,7 @@ impl Book {
         others.filter(|(_, list)| self.owed(list, s) > 0).count() == self.slots
     }
 
-    fn debt(&self, subscriber: u32, s: u128) -> u128 {
+    pub fn debt(&self, subscriber: u32, s: u128) -> u128 {
         let list = self.lists.get(&subscriber);
         list.map_or(0, |list| self.owed(list, s))
     }
@@ -141,7 +141,7 @@ impl Book {
 #[cfg(test)]
 mod tests {
     use super::*;
-    use crate::example::{plan, LINES};
+    use crate::example::{plan, LAST_LINES, LINES};
 
     #[test]
     fn document_01_example() {
@@ -154,6 +154,17 @@ mod tests {
         assert_eq!(book.clear(), [0; 5]);
         assert_eq!(book.newest(), 0);
         assert_eq!(book.acquire(0, 7, 2), [0, 7, 0, 667, 0]);
+    }
+
+    /// Nobody is added to a list under 13, so 7 is admitted when its wait is over, and 8 is not.
+    #[test]
+    fn document_02_item_13() {
+        let mut book = Book::new(plan(), 2);
+        for (moment, subscriber, cost, expected) in LAST_LINES {
+            assert_eq!(book.acquire(moment, subscriber, cost), expected);
+        }
+        let owes = [0, 8, 0, 4_398_046_511_437, 0];
+        assert_eq!(book.peek(4_398_046_511_103, 8), owes);
     }
 
     fn number(slots: usize, plan: Plan, moment: u64, subscriber: u32, cost: u32) -> u128 {

@@ -2,7 +2,7 @@
 //! newest moment, are the table's.
 
 use crate::checks;
-use crate::plan::{div_up, Plan};
+use crate::plan::{div_up, Plan, LAST_MOMENT};
 
 /// Number, left, reset and wait.
 #[derive(Clone, Copy, Debug, PartialEq, Eq)]
@@ -123,12 +123,34 @@ pub fn settled(plan: &Plan, moment: u128, debt: u128) -> Verdict {
     }
 }
 
-/// Number 8 with left and reset from the debt, and the wait for the cost.
-pub fn waiting(plan: &Plan, moment: u128, debt: u128, cost: u128) -> Verdict {
-    Verdict {
-        number: 8,
-        wait: div_up(debt + plan.period * cost - plan.full(), plan.limit),
-        ..settled(plan, moment, debt)
+/// The least wait for a cost that is not admitted at this debt: (debt + P×cost − P×B) / N, rounded up.
+pub fn least_wait(plan: &Plan, debt: u128, cost: u128) -> u128 {
+    div_up(debt + plan.period * cost - plan.full(), plan.limit)
+}
+
+/// A wait that does not end within the clock.
+struct NotOnThisClock;
+
+/// The step that reckons a wait (document 02, Item 13): the least one, if its end is within the clock.
+fn wait(plan: &Plan, moment: u128, debt: u128, cost: u128) -> Result<u128, NotOnThisClock> {
+    let least = least_wait(plan, debt, cost);
+    if moment + least <= LAST_MOMENT {
+        Ok(least)
+    } else {
+        Err(NotOnThisClock)
+    }
+}
+
+/// What a cost that is not admitted gets, in both engines and in the book: number 8 with left and reset from the debt, and the
+/// wait; or 13 in its place.
+pub fn denied(plan: &Plan, moment: u128, debt: u128, cost: u128) -> Verdict {
+    match wait(plan, moment, debt, cost) {
+        Ok(wait) => Verdict {
+            number: 8,
+            wait,
+            ..settled(plan, moment, debt)
+        },
+        Err(NotOnThisClock) => refusal(13),
     }
 }
 
@@ -149,7 +171,7 @@ pub fn judge<R: Record>(plan: &Plan, moment: u128, record: R, cost: u128) -> (Ve
         Some(next) => (settled(plan, moment, next.debt(plan, moment)), next),
         None => {
             let debt = record.debt(plan, moment);
-            (waiting(plan, moment, debt, cost), record)
+            (denied(plan, moment, debt, cost), record)
         }
     }
 }
@@ -162,7 +184,7 @@ pub fn look<R: Record>(plan: &Plan, moment: u128, record: R) -> Verdict {
     }
 }
 
-/// An ask on one record: checks 1, 3, 5, 6, 7 and 8, and the record afterwards.
+/// An ask on one record: checks 1, 3, 5, 6, 7 and 8 or 13, and the record afterwards.
 pub fn ask<R: Record>(plan: &Plan, moment: u128, record: R, cost: u128) -> (Verdict, R) {
     match checks::of_ask(plan, true, 0, moment, 1, cost) {
         Some(number) => (refusal(number), record),
@@ -186,6 +208,7 @@ pub fn steady<R: Record>(plan: &Plan, record: R, end: u128) -> u128 {
 #[cfg(test)]
 mod tests {
     use super::*;
+    use std::fmt::Debug;
 
     const EXAMPLE: (u32, u32, u32) = (3, 1000, 2);
 
@@ -253,6 +276,33 @@ mod tests {
         assert_eq!((whole_burst.number, whole_burst.left), (0, 0));
         let unknown = look(&plan(), 1000, Paced(0));
         assert_eq!((unknown.number, unknown.left, unknown.reset), (0, 2, 1000));
+    }
+
+    /// The verdict on a unit at the moment at which the whole burst was spent, which leaves the record as it is.
+    fn after_the_burst<R: Record + Debug + PartialEq>(moment: u128) -> Verdict {
+        let (_, spent) = ask(&plan(), moment, R::fresh(&plan(), moment), 2);
+        let (verdict, after) = ask(&plan(), moment, spent, 1);
+        assert_eq!(after, spent);
+        verdict
+    }
+
+    /// The unit is there 334 ms later.
+    fn a_wait_ends_within_the_clock<R: Record + Debug + PartialEq>() {
+        let last_8 = Verdict {
+            number: 8,
+            left: 0,
+            reset: 4_398_046_511_436,
+            wait: 334,
+        };
+        assert_eq!(after_the_burst::<R>(4_398_046_510_769), last_8);
+        assert_eq!(after_the_burst::<R>(4_398_046_510_770), refusal(13));
+        assert_eq!(after_the_burst::<R>(4_398_046_511_103), refusal(13));
+    }
+
+    #[test]
+    fn document_02_item_13() {
+        a_wait_ends_within_the_clock::<Paced>();
+        a_wait_ends_within_the_clock::<Bucket>();
     }
 
     #[test]

@@ -1,5 +1,5 @@
 //! Document 01's example with the resets of document 02 (Item 2) and its number 11 (Item 6), for the tests: one seat, 3 units
-//! per 1000 ms, burst 2.
+//! per 1000 ms, burst 2. And what document 02 (Item 13) makes of the same plan at the end of the clock.
 
 use crate::decision::{Bucket, Paced};
 use crate::plan::Plan;
@@ -23,6 +23,24 @@ pub const LINES: [Line; 10] = [
     (2000, 8, 2, [0, 8, 0, 2667, 0]),
     (2000, 7, 1, [9, 7, 0, 0, 0]),
     (1999, 8, 1, [11, 8, 0, 0, 0]),
+];
+
+/// On two seats. A unit is there 334 ms after the whole burst: of 7, which spends it 334 ms before the last moment, at that
+/// moment; of 8, which spends it a millisecond later, not on this clock.
+pub const LAST_LINES: [Line; 13] = [
+    (4_398_046_510_769, 7, 2, [0, 7, 0, 4_398_046_511_436, 0]),
+    (4_398_046_510_769, 7, 1, [8, 7, 0, 4_398_046_511_436, 334]),
+    (4_398_046_510_769, 7, 2, [13, 7, 0, 0, 0]),
+    (4_398_046_510_770, 8, 2, [0, 8, 0, 4_398_046_511_437, 0]),
+    (4_398_046_510_770, 8, 1, [13, 8, 0, 0, 0]),
+    (4_398_046_510_770, 8, 3, [6, 8, 0, 0, 0]),
+    (4_398_046_511_102, 7, 1, [8, 7, 0, 4_398_046_511_436, 1]),
+    (4_398_046_511_102, 8, 1, [13, 8, 0, 0, 0]),
+    (4_398_046_511_103, 8, 1, [13, 8, 0, 0, 0]),
+    (4_398_046_511_103, 9, 1, [9, 9, 0, 0, 0]),
+    (4_398_046_511_103, 7, 1, [0, 7, 0, 4_398_046_511_769, 0]),
+    (4_398_046_511_103, 7, 1, [13, 7, 0, 0, 0]),
+    (4_398_046_511_104, 7, 1, [3, 7, 0, 0, 0]),
 ];
 
 /// What hosts/c/example.c must print: a call, GCRA's answer and the token bucket's.

@@ -51,6 +51,17 @@ mod tests {
         assert_eq!(told(1999, [11, 8, 0, 0, 0]), [2, 1, 0, 0, 0]);
     }
 
+    /// A wait that is not on this clock is no wait: there is nothing to come again for.
+    #[test]
+    fn of_number_13() {
+        let plan = Plan::new(3, 1000, 2);
+        let told = |moment, answer| fields(&plan, moment, &answer);
+        let last_8 = [8, 7, 0, 4_398_046_511_436, 334];
+        assert_eq!(told(4_398_046_510_769, last_8), [2, 1, 0, 1, 1]);
+        assert_eq!(told(4_398_046_510_770, [13, 8, 0, 0, 0]), [2, 1, 0, 0, 0]);
+        assert_eq!(told(1000, [13, 8, 1, 1667, 334]), [2, 1, 0, 0, 0]);
+    }
+
     /// A unit a minute with a burst of 12: whole seconds stay, and a millisecond more is a second more.
     #[test]
     fn rounded_up() {

@@ -160,7 +160,7 @@ impl<R: Stored> Table<R> {
 #[cfg(test)]
 mod tests {
     use super::*;
-    use crate::example::{plan, LINES};
+    use crate::example::{plan, LAST_LINES, LINES};
     use std::fmt::Debug;
 
     /// Plays document 01's lines on one slot; `after` has the slot (id and record) after each admission, which is the newest.
@@ -326,6 +326,40 @@ mod tests {
             assert_eq!(table.clear(), [0; 5]);
             assert_eq!(table.acquire(&plan(), 0, 7, 1)[0], 0);
         }
+    }
+
+    /// Document 02, Item 13: nothing is written under 13, as under 8. A peek, which asks for nothing, knows no 13: it reports
+    /// a reset beyond the clock.
+    fn the_end_of_the_clock<R: Stored + Debug + PartialEq>() {
+        let mut table = Table::<R>::cleared(2);
+        for (moment, subscriber, cost, expected) in LAST_LINES {
+            let before = table.clone();
+            assert_eq!(table.acquire(&plan(), moment, subscriber, cost), expected);
+            assert_eq!(table == before, expected[0] != 0, "{expected:?}");
+        }
+        let owes = [0, 8, 0, 4_398_046_511_437, 0];
+        assert_eq!(table.peek(&plan(), 4_398_046_511_103, 8), owes);
+    }
+
+    /// A wait longer than the clock gets 13 at its first moment too: 2,678,400,000 ms for each unit.
+    fn longer_than_the_clock<R: Stored>() {
+        let plan = Plan::new(1, 2_678_400_000, 1_000_000);
+        let mut table = Table::<R>::cleared(1);
+        let spent = table.acquire(&plan, 0, 7, 1_000_000);
+        assert_eq!(spent, [0, 7, 0, 2_678_400_000_000_000, 0]);
+        let units_1642 = [8, 7, 0, 2_678_400_000_000_000, 4_397_932_800_000];
+        assert_eq!(table.acquire(&plan, 0, 7, 1642), units_1642);
+        assert_eq!(table.acquire(&plan, 0, 7, 1643), [13, 7, 0, 0, 0]);
+        assert_eq!(table.acquire(&plan, 0, 7, 1_000_000), [13, 7, 0, 0, 0]);
+        assert_eq!(table.acquire(&plan, 4_397_932_800_000, 7, 1642)[0], 0);
+    }
+
+    #[test]
+    fn document_02_item_13() {
+        the_end_of_the_clock::<Paced>();
+        the_end_of_the_clock::<Bucket>();
+        longer_than_the_clock::<Paced>();
+        longer_than_the_clock::<Bucket>();
     }
 
     #[test]

@@ -139,7 +139,7 @@ fn write_line(output: &mut Vec<u8>, answer: Answer) {
 #[cfg(test)]
 mod tests {
     use super::*;
-    use crate::example::LINES;
+    use crate::example::{Line, LAST_LINES, LINES};
 
     /// Tabs shown as spaces, as in document 01.
     fn tabbed(text: &str) -> Vec<u8> {
@@ -175,8 +175,21 @@ mod tests {
             0 7 1 1334 0\n0 7 0 1667 0\n8 7 0 1667 334\n8 7 0 1667 1\n0 7 0 2000 0\n\
             6 7 0 0 0\n9 8 0 0 0\n0 8 0 2667 0\n9 7 0 0 0\n11 8 0 0 0\n";
         assert_eq!(transcript(&tabbed(input)), tabbed(output));
-        let lines = LINES.map(|(_, _, _, answer)| answer.map(|n| n.to_string()).join(" ") + "\n");
-        assert_eq!(answers(input), lines.concat());
+        assert_eq!(answers(input), LINES.map(answer_of).concat());
+    }
+
+    fn ask_of((moment, subscriber, cost, _): Line) -> String {
+        format!("ask {moment} {subscriber} {cost}\n")
+    }
+
+    fn answer_of((_, _, _, answer): Line) -> String {
+        answer.map(|number| number.to_string()).join(" ") + "\n"
+    }
+
+    #[test]
+    fn document_02_item_13() {
+        let input = "plan 2 3 1000 2\n".to_string() + &LAST_LINES.map(ask_of).concat();
+        assert_eq!(answers(&input), LAST_LINES.map(answer_of).concat());
     }
 
     #[test]

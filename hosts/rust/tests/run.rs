@@ -1,10 +1,12 @@
 //! Document 01, 'The run', of the second implementation itself: both tables and the book answer alike at every place, and have
-//! the same newest moment, whether the moments rise or fall (document 02, Item 6).
+//! the same newest moment, whether the moments rise or fall (document 02, Item 6), and at the end of the clock (Item 13).
 
 use model::book::Book;
 use model::decision::{Bucket, Paced};
-use model::plan::Plan;
+use model::plan::{Plan, LAST_MOMENT};
 use model::table::{Answer, Table};
+
+const LAST: u64 = LAST_MOMENT as u64;
 
 /// A random number below `end`, by Knuth's generator.
 fn below(state: &mut u64, end: u64) -> u64 {
@@ -71,12 +73,13 @@ fn read(random: &mut u64, clock: u64, newest: u64) -> u64 {
     }
 }
 
-/// How often each number was answered in a run of 1000 calls.
-fn run(plan: Plan, slots: usize, longest_step: u64, seed: u64) -> [u32; 12] {
+/// How often each number was answered in a run of 1000 calls, which begins at 0 or so that it comes to the end of the clock.
+fn run(plan: Plan, slots: usize, longest_step: u64, seed: u64) -> [u32; 14] {
     let mut three = Three::new(plan, slots);
-    let (mut random, mut clock, mut counts) = (seed, 0, [0; 12]);
+    let begin = [0, LAST - 400 * longest_step][seed as usize / 5 % 2];
+    let (mut random, mut clock, mut counts) = (seed, begin, [0; 14]);
     for place in 0..1000 {
-        clock += below(&mut random, longest_step + 1);
+        clock = LAST.min(clock + below(&mut random, longest_step + 1));
         let moment = read(&mut random, clock, three.paced.newest);
         let subscriber = below(&mut random, slots as u64 + 3) as u32;
         let cost = below(&mut random, plan.burst as u64 + 2) as u32;
@@ -95,7 +98,7 @@ fn run(plan: Plan, slots: usize, longest_step: u64, seed: u64) -> [u32; 12] {
 
 #[test]
 fn three_answers_are_equal() {
-    let mut counts = [0; 12];
+    let mut counts = [0; 14];
     for seed in 0..40 {
         let plan = Plan::new(3, 1000, 1 + seed % 4);
         let slots = 1 + seed as usize % 5;
@@ -110,7 +113,7 @@ fn three_answers_are_equal() {
             .zip(part)
             .for_each(|(all, one)| *all += one);
     }
-    for number in [0, 4, 5, 6, 8, 9, 11] {
+    for number in [0, 4, 5, 6, 8, 9, 11, 13] {
         assert!(counts[number] > 100, "number {number} is rare: {counts:?}");
     }
     assert_eq!(counts[7], 0);

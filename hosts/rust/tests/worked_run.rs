@@ -34,7 +34,7 @@ fn the_expected_answers_are_right() {
     let (mut paced, mut bucket) = (Table::<Paced>::cleared(1), Table::<Bucket>::cleared(1));
     let mut book = Book::new(plan, 1);
     let (run, expected) = (list("run"), list("expected"));
-    assert_eq!((run.len(), expected.len()), (23, 23));
+    assert_eq!((run.len(), expected.len()), (31, 31));
     for (call, line) in run.iter().zip(&expected) {
         let arguments = numbers(&call[1..]);
         let answers: [Answer; 3] = match (call[0].as_str(), &arguments[..]) {

@@ -4,11 +4,19 @@ use crate::call::{plan_of, Terms};
 use crate::engine::Engine;
 use crate::rng::Rng;
 use model::checks::MOST_SLOTS;
+use model::decision::least_wait;
 use model::plan::{Plan, LAST_MOMENT};
 use model::table::Table;
 
 const MOST: [u32; 3] = [1_000_000, 2_678_400_000, 1_000_000];
 pub const LAST: u64 = LAST_MOMENT as u64;
+
+/// Under which a burst takes longest to drain, and longer than the clock lasts.
+pub const SLOWEST: Terms = Terms {
+    limit: 1,
+    period: MOST[1],
+    burst: MOST[2],
+};
 
 /// How many slots of a table are drawn; the others repeat them, in any order.
 const MOST_DRAWN: usize = 256;
@@ -59,6 +67,17 @@ pub fn moment(rng: &mut Rng) -> u64 {
     }
 }
 
+/// Any moment; or one in the clock's last period or in the last milliseconds that a wait takes; or the last at which the wait
+/// ends within the clock, or the next.
+pub fn moment_for(rng: &mut Rng, terms: &Terms, wait: u64) -> u64 {
+    match rng.below(8) {
+        0 => LAST - rng.below(terms.period.max(1) as u64),
+        1 => LAST - rng.below(wait.clamp(1, LAST)),
+        2 => LAST.saturating_sub(wait) + rng.below(2),
+        _ => moment(rng),
+    }
+}
+
 pub fn beyond_the_clock(rng: &mut Rng) -> u64 {
     let anywhere = LAST + rng.of_any_size(LAST);
     rng.pick(&[LAST + 1, u64::MAX, anywhere])
@@ -85,6 +104,25 @@ pub fn cost(rng: &mut Rng, burst: u32) -> u32 {
     }
 }
 
+/// What somebody may owe for whom the cost is too much: the wait is 1 ms, as long as it can be, whole milliseconds or just not,
+/// or anything between. Nothing under a plan or for a cost outside the limits.
+pub fn too_much(rng: &mut Rng, plan: &Plan, cost: u128) -> Option<u128> {
+    if !plan.within_limits() || !(1..=plan.burst).contains(&cost) {
+        return None;
+    }
+    let most = plan.period * cost;
+    let lacking = match rng.below(4) {
+        0 => 1,
+        1 => most,
+        2 => {
+            let whole = rng.below((most / plan.limit) as u64 + 1) as u128 * plan.limit;
+            (whole + rng.below(3) as u128).saturating_sub(1)
+        }
+        _ => rng.below(most as u64) as u128,
+    };
+    Some(plan.full() - most + lacking.clamp(1, most))
+}
+
 /// Arguments at random, and a damaged table of so many slots that is chosen for them.
 pub struct Scene<E> {
     pub terms: Terms,
@@ -96,14 +134,18 @@ pub struct Scene<E> {
 
 pub fn scene<E: Engine>(rng: &mut Rng, slots: usize) -> Scene<E> {
     let terms = terms(rng);
-    let moment = moment(rng);
+    let plan = plan_of(&terms);
     let subscriber = subscriber(rng);
     let cost = cost(rng, terms.burst);
+    let debt = too_much(rng, &plan, cost as u128);
+    let wait = debt.map_or(1, |debt| least_wait(&plan, debt, cost as u128));
+    let moment = moment_for(rng, &terms, wait as u64);
     let around = Around {
-        plan: plan_of(&terms),
+        plan,
         moment: moment as u128,
         subscriber,
         cost: cost as u128,
+        debt: debt.filter(|_| moment <= LAST),
     };
     Scene {
         terms,
@@ -120,6 +162,8 @@ struct Around {
     moment: u128,
     subscriber: u32,
     cost: u128,
+    /// What the subscriber may owe so that the cost is too much.
+    debt: Option<u128>,
 }
 
 #[derive(Clone, Copy, PartialEq, Eq)]
@@ -130,7 +174,7 @@ enum Mood {
     Full,
     /// The same, but for one slot that is free.
     OneFree,
-    /// The subscriber has a slot or two.
+    /// The subscriber has a slot or two, and every other time owes too much for the cost.
     Known,
 }
 
@@ -159,6 +203,28 @@ fn table<E: Engine>(rng: &mut Rng, around: &Around, slots: usize) -> Table<E> {
     if rng.once_in(12) {
         cut(rng, &mut table);
     }
+    table
+}
+
+/// A table of a few slots on which somebody owes so much at a moment, and nothing was admitted later; the others may be damaged.
+pub fn owing<E: Engine>(
+    rng: &mut Rng,
+    plan: &Plan,
+    moment: u64,
+    subscriber: u32,
+    debt: u128,
+) -> Table<E> {
+    let slots = rng.from(1, 8) as usize;
+    let mut table = Table::<E>::cleared(slots);
+    for slot in 0..slots {
+        table.ids[slot] = id(rng, subscriber, Mood::Full);
+        E::near_a_bound(rng, plan, moment as u128, 1).store(&mut table.columns, slot);
+    }
+    let slot = rng.below(slots as u64) as usize;
+    table.ids[slot] = subscriber;
+    E::owing(rng, plan, moment as u128, debt).store(&mut table.columns, slot);
+    let some = rng.below(moment + 1);
+    table.newest = rng.pick(&[0, some, moment]);
     table
 }
 
@@ -237,6 +303,11 @@ fn mend<E: Engine>(rng: &mut Rng, around: &Around, mood: Mood, table: &mut Table
             table.ids[slot] = around.subscriber;
             if rng.once_in(3) {
                 table.ids[rng.below(slots) as usize] = around.subscriber;
+            }
+            if let (Some(debt), true) = (around.debt, rng.once_in(2)) {
+                let own = table.ids.iter().position(|&id| id == around.subscriber);
+                let record = E::owing(rng, &around.plan, around.moment, debt);
+                record.store(&mut table.columns, own.unwrap_or(slot));
             }
         }
     }

@@ -2,14 +2,15 @@
 
 use crate::call::Call;
 
-/// The kinds of a call that gets 0 or 8.
-pub const ANSWERED: [&str; 3] = ["admitted", "throttled", "looked at"];
+/// The kinds of a call that gets 0, 8 or 13.
+pub const ANSWERED: [&str; 4] = ["admitted", "throttled", "looked at", "off the clock"];
 
 /// The place in `ANSWERED` of a call and its number.
 pub fn answered(call: &Call, number: u128) -> usize {
     match (call, number) {
         (Call::Peek { .. }, _) => 2,
         (_, 0) => 0,
+        (_, 13) => 3,
         _ => 1,
     }
 }

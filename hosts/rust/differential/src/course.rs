@@ -1,8 +1,8 @@
 //! The calls of one long run under one plan: a clock that mostly creeps, more subscribers than slots, and costs that keep
-//! slots busy, so that throttling, refilling, takeover of free slots and a full table all occur again and again; and if the
-//! clock falls, moments below the newest admission, at it and above it.
+//! slots busy, so that throttling, refilling, takeover of free slots and a full table all occur again and again; moments near
+//! the end of the clock; and if the clock falls, moments below the newest admission, at it and above it.
 
-use crate::call::{plan_of, Call, Terms};
+use crate::call::{ask, plan_of, Call, Terms};
 use crate::choose::{self, LAST};
 use crate::rng::Rng;
 use model::plan::div_up;
@@ -29,8 +29,9 @@ pub struct Course {
     falls: bool,
     /// What the clock shows.
     moment: u64,
-    /// The newest moment at which anything was admitted, as the answers tell.
+    /// The newest moment at which anything was admitted, as the answers tell, and who was.
     newest: u64,
+    holder: Option<u32>,
     /// In how many milliseconds a whole burst drains.
     drain: u64,
     /// The longest ordinary step of the clock.
@@ -79,6 +80,7 @@ impl Course {
             falls,
             moment: 0,
             newest: 0,
+            holder: None,
             drain,
             pace: rng.pick(&[1, share / 8, share / 2, share, 2 * share]),
         };
@@ -99,13 +101,14 @@ impl Course {
         }
     }
 
-    /// At the start, and anew after a clear: there also a clock that rises may begin earlier.
+    /// At the start, and anew after a clear: there also a clock that rises may begin earlier. Near its end, waits end beyond it.
     pub fn start_the_clock(&mut self, rng: &mut Rng) {
-        self.moment = match rng.below(4) {
+        self.moment = match rng.below(5) {
             0 => 0,
             1 => rng.below(10_000),
             _ if self.once() => rng.of_any_size(LAST / 2),
-            2 => rng.of_any_size(LAST),
+            2 if self.size == Size::Few => LAST - rng.below(self.terms.period.max(1) as u64),
+            2 | 3 => rng.of_any_size(LAST),
             _ => LAST - rng.below(self.drain.clamp(1, LAST)),
         };
     }
@@ -140,11 +143,22 @@ impl Course {
     }
 
     fn hear(&mut self, last: &Call, answer: &Answer) {
-        match (last, answer[0]) {
-            (Call::Acquire { moment, .. }, 0) => self.newest = *moment,
-            (Call::Clear, _) => self.newest = 0,
+        match *last {
+            Call::Acquire {
+                moment, subscriber, ..
+            } if answer[0] == 0 => (self.newest, self.holder) = (moment, Some(subscriber)),
+            Call::Clear => (self.newest, self.holder) = (0, None),
             _ => (),
         }
+    }
+
+    /// The last calls of a run: at the clock's last moment who was admitted last, and so has a slot, asks for its whole burst
+    /// twice. The second time at the latest it is not there on this clock.
+    pub fn end(&self) -> impl Iterator<Item = Call> {
+        let whole = self
+            .holder
+            .map(|holder| ask(LAST, holder, self.terms.burst));
+        whole.into_iter().flat_map(|call| [call; 2])
     }
 
     fn newcomer(&mut self, rng: &mut Rng) -> Call {

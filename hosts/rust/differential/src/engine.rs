@@ -21,6 +21,8 @@ pub trait Engine: Stored {
     fn just_free(self, plan: &Plan, moment: u128) -> bool;
     /// A record at one of the bounds that matter at this moment, beside it, or anywhere.
     fn near_a_bound(rng: &mut Rng, plan: &Plan, moment: u128, cost: u128) -> Self;
+    /// A record that owes exactly this much at this moment; at most a full bucket.
+    fn owing(rng: &mut Rng, plan: &Plan, moment: u128, debt: u128) -> Self;
 }
 
 impl Engine for Paced {
@@ -60,6 +62,10 @@ impl Engine for Paced {
             _ => rng.next() as u128,
         };
         Paced(beside(rng, bound))
+    }
+
+    fn owing(_: &mut Rng, plan: &Plan, moment: u128, debt: u128) -> Paced {
+        Paced(moment * plan.limit + debt)
     }
 }
 
@@ -110,6 +116,18 @@ impl Engine for Bucket {
         };
         let level = beside(rng, bound);
         Bucket { level, last }
+    }
+
+    fn owing(rng: &mut Rng, plan: &Plan, moment: u128, debt: u128) -> Bucket {
+        let level_now = plan.full() - debt;
+        // no longer ago than the whole level takes to come in
+        let most = moment.min(level_now / plan.limit) as u64;
+        let some = rng.below(most + 1);
+        let ago = rng.pick(&[0, some, most]) as u128;
+        Bucket {
+            level: level_now - ago * plan.limit,
+            last: moment - ago,
+        }
     }
 }
 

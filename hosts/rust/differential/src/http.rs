@@ -1,9 +1,10 @@
 //! What an HTTP response says of an answer, reckoned by the archive and by the model: of any five numbers, and of the answers
 //! to clients, who are admitted if they wait as long as they are told, and with their whole burst after the reset, and not a
-//! second earlier.
+//! second earlier. Whole seconds may end beyond the clock: then its last moment admits them, unless what they wait for is not
+//! on this clock (document 02, Item 13).
 
 use crate::call::{ask, plan_of, Terms};
-use crate::choose;
+use crate::choose::{self, LAST};
 use crate::compare::{Difference, Pair};
 use crate::counts::Counts;
 use crate::engine::Engine;
@@ -20,21 +21,35 @@ const ADMITTED: usize = 1;
 const THROTTLED: usize = 2;
 const REFUSED: usize = 3;
 const EARLY: usize = 4;
-const WAITED: usize = 5;
-const RENEWED: usize = 6;
-const KINDS: [&str; 7] = [
+const OFF_CLOCK: usize = 5;
+const WAITED: usize = 6;
+const RENEWED: usize = 7;
+const AT_THE_END: usize = 8;
+const NEVER: usize = 9;
+const KINDS: [&str; 10] = [
     "bad plan",
     "admitted",
     "throttled",
     "refused",
     "early",
+    "off the clock",
     "waited",
     "renewed",
+    "at the end",
+    "never",
 ];
 
 /// How many answers of each kind were compared, how many clients waited as long as they were told, and how many came for their
-/// whole burst at the reset that they were told.
-pub type Fields = Counts<7>;
+/// whole burst at the reset that they were told; how many of those who would come after the clock's end were admitted at its
+/// last moment, and how many not.
+pub type Fields = Counts<10>;
+
+/// What a client comes again for, and at which moments, with the number that is due at each.
+struct Visit {
+    kind: usize,
+    cost: u32,
+    due: Vec<(u64, u128)>,
+}
 
 struct Trial {
     rng: Rng,
@@ -65,7 +80,7 @@ impl Trial {
         let number = match rng.below(8) {
             0..=2 => 0,
             3..=5 => 8,
-            6 => rng.below(12),
+            6 => rng.below(14),
             _ => rng.next(),
         };
         let (subscriber, left) = (rng.next(), rng.next());
@@ -76,42 +91,63 @@ impl Trial {
     }
 
     /// Somebody spends the whole burst, and a client asks some time later, or now and then earlier. Then it comes again when
-    /// it is told to, or for its whole burst after the reset.
+    /// it is told to, or for its whole burst after the reset; or at the clock's end.
     fn client<E: Engine>(&mut self) -> Result<(), Difference> {
         let rng = &mut self.rng;
         let terms = choose::terms(rng);
-        let begin = choose::moment(rng);
+        let (subscriber, cost) = (choose::subscriber(rng), choose::cost(rng, terms.burst));
+        let whole_wait = (terms.period as u64 * cost as u64).div_ceil(terms.limit.max(1) as u64);
+        let begin = choose::moment_for(rng, &terms, whole_wait);
         let apart = rng.of_any_size(1 << 32);
         let moment = match rng.once_in(8) {
             true => begin.saturating_sub(apart),
             false => begin.saturating_add(apart),
         };
         let spender = rng.pick(&[1, 1, 1, 2]);
-        let (subscriber, cost) = (choose::subscriber(rng), choose::cost(rng, terms.burst));
         let mut pair = Pair::new(terms, Table::<E>::cleared(1), None);
         pair.call(&ask(begin, spender, terms.burst))?;
         let answer = pair.call(&ask(moment, subscriber, cost))?.map(|n| n as u64);
         let told = self.fields(&terms, moment, &answer)?;
-        let (kind, cost, seconds) = match answer[0] {
-            8 if self.rng.once_in(2) => (WAITED, cost, told[4]),
-            0 | 8 => (RENEWED, terms.burst, told[3]),
-            _ => return Ok(()),
+        let Some(visit) = self.visit(&terms, moment, cost, &answer, &told) else {
+            return Ok(());
+        };
+        self.counts.count(visit.kind, true);
+        for (later, number) in visit.due {
+            let got = pair.call(&ask(later, subscriber, visit.cost))?[0];
+            if got != number {
+                let (name, why, cost) = (E::NAME, KINDS[visit.kind], visit.cost);
+                return Err(format!(
+                    "{name}: under {terms:?} subscriber {subscriber} got {answer:?} at {moment} and was told {told:?} ({why}); \
+                     cost {cost} gets {got} at {later}, and {number} is due\n"
+                ));
+            }
+        }
+        Ok(())
+    }
+
+    /// How a client comes again that got this answer and was told these fields: for its cost or its whole burst, when it is
+    /// told to and a second earlier, or at the clock's last moment.
+    fn visit(
+        &mut self,
+        terms: &Terms,
+        moment: u64,
+        cost: u32,
+        answer: &[u64; 5],
+        told: &[u64; 5],
+    ) -> Option<Visit> {
+        let (kind, cost, seconds, on_the_clock) = match answer[0] {
+            8 if self.rng.once_in(2) => (WAITED, cost, told[4], true),
+            0 | 8 => (RENEWED, terms.burst, told[3], answer[3] <= LAST),
+            13 => (NEVER, cost, told[4], false),
+            _ => return None,
         };
         let later = moment.saturating_add(seconds.saturating_mul(1000));
-        if later > choose::LAST {
-            return Ok(());
-        }
-        self.counts.count(kind, true);
-        let early = pair.call(&ask(later.saturating_sub(1000), subscriber, cost))?[0];
-        let late = pair.call(&ask(later, subscriber, cost))?[0];
-        if (early, late) == (8, 0) {
-            return Ok(());
-        }
-        let (name, why) = (E::NAME, KINDS[kind]);
-        Err(format!(
-            "{name}: under {terms:?} subscriber {subscriber} got {answer:?} at {moment} and was told {seconds} s ({why}); \
-             cost {cost} gets {late} then, and {early} a second earlier\n"
-        ))
+        let (kind, due) = match (on_the_clock, later <= LAST) {
+            (false, _) => (NEVER, vec![(LAST, 13)]),
+            (true, false) => (AT_THE_END, vec![(LAST, 0)]),
+            (true, true) => (kind, vec![(later.saturating_sub(1000), 8), (later, 0)]),
+        };
+        Some(Visit { kind, cost, due })
     }
 
     /// The fields of an answer on which both agree.
@@ -144,6 +180,7 @@ impl Trial {
             0 => ADMITTED,
             8 => THROTTLED,
             11 => EARLY,
+            13 => OFF_CLOCK,
             _ => REFUSED,
         };
         self.counts.count(kind, true);

@@ -57,6 +57,11 @@ impl Joint {
         if let Some(fault) = spoil.and_then(Spoil::of_all) {
             spoil::model_answer(fault, call, &mut answer);
         }
+        if let (Some(fault), Some(moment)) = (spoil.and_then(Spoil::of_book), call.moment()) {
+            let debt = self.book.debt(call.subscriber(), moment as u128);
+            let plan = plan_of(&self.terms);
+            spoil::move_the_end(fault, &plan, call, debt, &mut answer);
+        }
         answer
     }
 

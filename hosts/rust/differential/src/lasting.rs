@@ -1,5 +1,6 @@
 //! Runs that must be remembered long: one or two slots, a large burst, and some hundreds of admissions of subscribers who owe
-//! something throughout, so that what they owe depends on calls far back.
+//! something throughout, so that what they owe depends on calls far back; and mostly so late that it depends on them whether a
+//! wait ends within the clock.
 
 use crate::call::{ask, plan_of, Call, Terms};
 use crate::choose::{self, LAST};
@@ -13,7 +14,7 @@ use model::plan::div_up;
 use model::table::Answer;
 
 /// How many answers a book with a short memory gets wrong.
-pub type Remembered = Counts<3>;
+pub type Remembered = Counts<4>;
 
 pub fn run(trial: &mut Trial) -> Result<Remembered, Difference> {
     let found = "a book with a short memory gets these wrong";
@@ -35,7 +36,7 @@ fn one(trial: &mut Trial, counts: &mut Remembered) -> Result<(), Difference> {
         let answer = joint.call(trial, &call)?;
         course.hear(&call, &answer);
         let wrong = ask_and_forget(&mut forgetful, &call) != answer;
-        if matches!(answer[0], 0 | 8) {
+        if matches!(answer[0], 0 | 8 | 13) {
             counts.count(answered(&call, answer[0]), wrong);
         }
     }
@@ -48,26 +49,52 @@ fn one(trial: &mut Trial, counts: &mut Remembered) -> Result<(), Difference> {
 /// The calls of a run. Subscribers 1, 2, .. hold the slots, and one more finds none.
 struct Course {
     terms: Terms,
+    /// What each holder asks for first.
+    first: u32,
     moment: u64,
     /// The longest step of the clock, but for what `resets` allow.
     pace: u64,
+    /// The latest moment to which the clock goes by itself.
+    until: u64,
     /// The first moment at which each holder owes nothing, as it was told; 0 before it was admitted.
     resets: Vec<u64>,
 }
 
+/// In how many milliseconds so many units drain.
+fn drain(terms: &Terms, cost: u32) -> u64 {
+    let plan = plan_of(terms);
+    div_up(plan.period * cost as u128, plan.limit) as u64
+}
+
+/// A plan with a large burst; mostly one that drains neither at once nor longer than the clock lasts.
+fn terms(rng: &mut Rng) -> Terms {
+    let mut draw = || Terms {
+        burst: 1000 + rng.of_any_size(999_000) as u32,
+        ..choose::good_terms(rng)
+    };
+    let (terms, another) = (draw(), draw());
+    match (1000..LAST).contains(&drain(&terms, terms.burst)) {
+        true => terms,
+        false => another,
+    }
+}
+
 impl Course {
     fn new(rng: &mut Rng) -> Course {
-        let terms = Terms {
-            burst: 1000 + rng.of_any_size(999_000) as u32,
-            ..choose::good_terms(rng)
-        };
-        let drain = div_up(plan_of(&terms).full(), plan_of(&terms).limit) as u64;
+        let terms = terms(rng);
+        let first = rng.from(1, terms.burst as u64 / 2) as u32;
+        let drain_first = drain(&terms, first);
+        let drain = drain(&terms, terms.burst);
         let (soon, anywhen) = (rng.below(10_000), rng.of_any_size(LAST));
+        // after some 170 admissions more is owed than drains on this clock, and what a short memory knows still does
+        let late = LAST.saturating_sub(drain_first + drain / 6);
         Course {
             terms,
-            moment: rng.pick(&[0, soon, anywhen]),
+            first,
+            moment: rng.pick(&[soon, anywhen, late, late, late, late]),
             // from a clock that stands to one by which more would drain than is asked for
             pace: rng.pick(&[0, drain / 4000, drain / 1000, drain / 400]),
+            until: LAST.saturating_sub(drain / 8),
             resets: vec![0; rng.from(1, 2) as usize],
         }
     }
@@ -80,12 +107,11 @@ impl Course {
     fn next(&mut self, rng: &mut Rng) -> Call {
         let burst = self.terms.burst;
         if let Some(new) = self.resets.iter().position(|&reset| reset == 0) {
-            let cost = rng.from(1, burst as u64 / 2) as u32;
-            return ask(self.moment, new as u32 + 1, cost);
+            return ask(self.moment, new as u32 + 1, self.first);
         }
         let step = rng.from(0, self.pace);
-        let latest = self.resets.iter().fold(LAST + 1, |a, &b| a.min(b)) - 1;
-        self.moment = latest.min(self.moment + step);
+        let latest = self.resets.iter().fold(self.until + 1, |a, &b| a.min(b)) - 1;
+        self.moment = self.moment.max(latest.min(self.moment + step));
         let holder = rng.from(1, self.resets.len() as u64) as u32;
         let cost = rng.from(1, burst as u64 / 500) as u32;
         let moment = match rng.below(16) {
@@ -109,10 +135,14 @@ impl Course {
         }
     }
 
-    /// All ask for the whole burst when nobody owes anything any more, first the one without a slot.
+    /// All ask for the whole burst when nobody owes anything any more, first the one without a slot; and at the clock's last
+    /// moment twice, so that it is not there on this clock.
     fn end(&self) -> impl Iterator<Item = Call> + '_ {
         let rested = self.resets.iter().fold(0, |a, &b| a.max(b));
-        let subscribers = (1..=self.stranger()).rev();
-        subscribers.map(move |subscriber| ask(rested, subscriber, self.terms.burst))
+        let all = move |moment| {
+            let subscribers = (1..=self.stranger()).rev();
+            subscribers.map(move |subscriber| ask(moment, subscriber, self.terms.burst))
+        };
+        [rested.min(LAST), LAST, LAST].into_iter().flat_map(all)
     }
 }

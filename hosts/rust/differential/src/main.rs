@@ -1,6 +1,7 @@
 //! Compares the proved archive, through its C interface, with the second implementation: after every call the answer, every
 //! column and the newest moment, on any table and on tables of the most slots and of one more; over a run both engines with
-//! the book, also where the clock falls and where it must remember long; what a reset is worth; and the fields for HTTP.
+//! the book, also where the clock falls and where it must remember long; where a wait ends; what a reset is worth; and the
+//! fields for HTTP.
 //! `options::USAGE` says how to run it.
 
 mod call;
@@ -8,6 +9,7 @@ mod choose;
 mod compare;
 mod counts;
 mod course;
+mod ending;
 mod engine;
 mod http;
 mod joint;
@@ -29,7 +31,9 @@ use options::{Options, Wish};
 use std::env;
 use std::io::{self, Write};
 use std::process::ExitCode;
-use tally::{Kind, Tally, BETWEEN, BEYOND, FALLING, LASTING, MOST, RISING, SINGLE, STEADY, WIDE};
+use tally::{
+    Kind, Tally, BETWEEN, BEYOND, ENDING, FALLING, LASTING, MOST, RISING, SINGLE, STEADY, WIDE,
+};
 use trial::Trial;
 
 type Run = fn(&mut Trial) -> Result<(), Difference>;
@@ -38,11 +42,12 @@ type Run = fn(&mut Trial) -> Result<(), Difference>;
 struct Compared {
     tallies: Vec<Tally>,
     lasting: lasting::Remembered,
+    ends: ending::Ends,
     resets: reset::Resets,
     fields: http::Fields,
 }
 
-/// Every kind of run, what a reset is worth, and the fields for HTTP.
+/// Every kind of run, where a wait ends, what a reset is worth, and the fields for HTTP.
 fn compare_all(options: &Options) -> Result<Compared, Difference> {
     let part = |percent| options.calls / 100 * percent;
     // 2000 reach what they must; more of them only in longer comparisons, since a call on so many slots takes its time
@@ -64,12 +69,17 @@ fn compare_all(options: &Options) -> Result<Compared, Difference> {
         run(&mut trial)?;
         tallies.extend(trial.tallies);
     }
-    let mut trial = Trial::new(&LASTING, options.seed, part(2), spoil);
+    // so many that runs of every sort are among them
+    let mut trial = Trial::new(&LASTING, options.seed, part(2).max(8000), spoil);
     let lasting = lasting::run(&mut trial)?;
+    tallies.extend(trial.tallies);
+    let mut trial = Trial::new(&ENDING, options.seed, part(5), spoil);
+    let ends = ending::run(&mut trial)?;
     tallies.extend(trial.tallies);
     Ok(Compared {
         tallies,
         lasting,
+        ends,
         resets: reset::run(options.seed, part(5), spoil)?,
         fields: http::run(options.seed, part(5), spoil)?,
     })
@@ -102,6 +112,7 @@ fn run(options: &Options) -> Result<(), u8> {
     })?;
     say(&report(&compared.tallies))?;
     say(&compared.lasting.line())?;
+    say(&compared.ends.line())?;
     say(&compared.resets.line())?;
     say(&compared.fields.line())?;
     let impossible = compared.tallies.iter().flat_map(Tally::impossible);
@@ -116,6 +127,7 @@ fn run(options: &Options) -> Result<(), u8> {
     }
     let missing = compared.tallies.iter().flat_map(Tally::missing);
     let missing = missing.chain(compared.lasting.missing());
+    let missing = missing.chain(compared.ends.missing());
     let missing = missing.chain(compared.resets.missing());
     let missing: Vec<String> = missing.chain(compared.fields.missing()).collect();
     if missing.is_empty() {

@@ -45,5 +45,8 @@ fn one(trial: &mut Trial, mut course: Course) -> Result<(), Difference> {
         }
         call = course.next(&mut trial.rng, &call, &answer);
     }
+    for call in course.end() {
+        joint.call(trial, &call)?;
+    }
     Ok(())
 }

@@ -5,22 +5,27 @@ mod done;
 use crate::call::{Call, Terms};
 use crate::engine::{Engine, NAMES};
 use crate::out::Out;
-use model::decision::Bucket;
+use model::decision::{least_wait, settled, Bucket};
+use model::plan::{Plan, LAST_MOMENT};
 use model::table::Answer;
 
 pub use done::Done;
 
 const BOTH_AT_ONCE: &str = "both";
 const EVERYWHERE: &str = "all";
+const THE_BOOK: &str = "book";
+const IN_THE_END: &str = "ending";
 
 /// Where a fault is tried: in each engine by itself, and both at once; in the token bucket, whose alone the refilled level and
-/// the last moment are; in the book; in the fields for HTTP; in what a shop takes for the reset; or in both engines, their
-/// models and the book, so that only a count of what cannot occur shows it. What an engine and its model, or both engines, do
-/// alike shows against the book alone.
+/// the last moment are; in the book; in the fields for HTTP; in what a shop takes for the reset, or for the answer where a wait
+/// ends; or in both engines, their models and the book, so that only a count of what cannot occur shows it. What an engine and
+/// its model, or both engines, do alike shows against the book alone.
 const EACH: &[&str] = &NAMES;
 const EACH_OR_BOTH: &[&str] = &[NAMES[0], NAMES[1], BOTH_AT_ONCE];
+const EACH_OR_BOOK: &[&str] = &[NAMES[0], NAMES[1], THE_BOOK];
+const EACH_OR_END: &[&str] = &[NAMES[0], NAMES[1], IN_THE_END];
 const BUCKET: &[&str] = &[Bucket::NAME];
-const BOOK: &[&str] = &["book"];
+const BOOK: &[&str] = &[THE_BOOK];
 const HTTP: &[&str] = &["http"];
 const RESET: &[&str] = &["reset"];
 const ALL: &[&str] = &[EVERYWHERE];
@@ -71,16 +76,24 @@ faults! {
     EarlyFirst      "early-first"       EACH         "11 before 3"
     EarlyLast       "early-last"        EACH         "11 after 4"
     BeyondIgnored   "beyond-ignored"    EACH         "a newest moment beyond the clock is taken as 0"
+    EndlessClock    "endless-clock"     EACH_OR_BOOK "8 in place of 13, with a wait that ends beyond the clock"
+    ClockShort      "clock-short"       EACH_OR_END  "13 where the wait ends at the clock's last moment"
+    ClockLong       "clock-long"        EACH_OR_END  "8 where the wait ends a millisecond beyond the clock"
+    OffClockWait    "off-clock-wait"    EACH         "a wait stands beside 13"
+    OffClockWrites  "off-clock-writes"  EACH         "the record is written under 13"
+    OffClockLate    "off-clock-late"    EACH         "3 in place of 13"
     Nonsense        "nonsense"          EACH_OR_BOTH "acquire reports a reset one too late, and the model does too"
     NewestLate      "newest-late"       EACH_OR_BOTH "an admission writes a newest moment one too late, and the model does too"
     Deaf            "deaf"              BOOK         "the book is not told of acquires of cost 1"
     ShortMemory     "short-memory"      BOOK         "the book sees only the last 100 admitted calls of a subscriber"
     OwnNewest       "own-newest"        BOOK         "the book takes the newest moment from the caller's admitted calls alone"
+    PeekOffClock    "peek-off-clock"    ALL          "a peek gets 13 where the reset is off the clock, by the models and the book too"
     CorruptForEarly "corrupt-for-early" ALL          "7 in place of 11, by the models and the book too"
     RetryDown       "retry-down"        HTTP         "Retry-After is rounded down"
     QuotaLimit      "quota-limit"       HTTP         "the quota is the limit"
     ResetMoment     "reset-moment"      HTTP         "the seconds until the reset are counted from moment 0"
     RefusalTold     "refusal-told"      HTTP         "what is left is told under every number"
+    RetryOffClock   "retry-off-clock"   HTTP         "Retry-After is told under 13 as under 8"
     RetryEarly      "retry-early"       HTTP         "Retry-After is a second too short, and the model's too"
     ResetSoon       "reset-soon"        HTTP         "the seconds until the reset are one too few, and the model's too"
     ResetEarly      "reset-early"       RESET        "the reset is one too early, and the model's too"
@@ -116,6 +129,16 @@ impl Spoil {
         (self.place == EVERYWHERE).then_some(self.fault)
     }
 
+    /// The fault that the book alone has.
+    pub fn of_book(self) -> Option<Fault> {
+        (self.place == THE_BOOK).then_some(self.fault)
+    }
+
+    /// The fault in what is heard where a wait ends.
+    pub fn of_the_end(self) -> Option<Fault> {
+        (self.place == IN_THE_END).then_some(self.fault)
+    }
+
     /// Whether it keeps this call from the book.
     pub fn keeps_from_the_book(self, call: &Call) -> bool {
         self.fault == Fault::Deaf && matches!(call, Call::Acquire { cost: 1, .. })
@@ -138,6 +161,7 @@ impl Spoil {
             (Fault::QuotaLimit, _) => fields[0] = terms.limit as u64,
             (Fault::ResetMoment, 0 | 8) => fields[3] = answer[3].div_ceil(1000),
             (Fault::RefusalTold, _) => fields[2] = answer[2],
+            (Fault::RetryOffClock, 13) => fields[4] = answer[4].div_ceil(1000),
             _ => (),
         }
         if let Some(time) = self.shortens_both() {
@@ -176,7 +200,29 @@ pub fn model_answer(fault: Fault, call: &Call, answer: &mut Answer) {
     match (fault, call, answer[0]) {
         (Fault::Nonsense, Call::Acquire { .. }, 0 | 8) => answer[3] += 1,
         (Fault::CorruptForEarly, _, 11) => answer[0] = 7,
+        (Fault::PeekOffClock, Call::Peek { .. }, 0) if answer[3] > LAST_MOMENT => {
+            *answer = [13, answer[1], 0, 0, 0]
+        }
         _ => (),
+    }
+}
+
+/// Changes the answer to an acquire of somebody who owes this much, and for whom the cost is too much, as if the clock ended
+/// elsewhere.
+pub fn move_the_end(fault: Fault, plan: &Plan, call: &Call, debt: u128, answer: &mut Answer) {
+    let end = match fault {
+        Fault::EndlessClock => u128::MAX,
+        Fault::ClockShort => LAST_MOMENT - 1,
+        Fault::ClockLong => LAST_MOMENT + 1,
+        _ => return,
+    };
+    if let (&Call::Acquire { moment, cost, .. }, 8 | 13) = (call, answer[0]) {
+        let (moment, wait) = (moment as u128, least_wait(plan, debt, cost as u128));
+        let told = settled(plan, moment, debt);
+        *answer = match moment + wait <= end {
+            true => [8, answer[1], told.left, told.reset, wait],
+            false => [13, answer[1], 0, 0, 0],
+        };
     }
 }
 

@@ -11,21 +11,29 @@ pub struct Kind {
 }
 
 /// The places of what is counted: the numbers; an admission that takes over the slot of another who owes nothing any more; and
-/// a call that gets 0, 8 or 9 at an earlier moment than another before it.
-const NUMBERS: [u128; 11] = [0, 1, 2, 3, 4, 5, 6, 7, 8, 9, 11];
+/// a call that gets 0, 8, 9 or 13 at an earlier moment than another before it.
+const NUMBERS: [u128; 12] = [0, 1, 2, 3, 4, 5, 6, 7, 8, 9, 11, 13];
 const EARLY: usize = 10;
-const TAKEOVER: usize = 11;
-const FALLEN: usize = 12;
-const PLACES: usize = 13;
+const OFF_CLOCK: usize = 11;
+const TAKEOVER: usize = 12;
+const FALLEN: usize = 13;
+const PLACES: usize = 14;
 const NAMES: [&str; PLACES] = [
-    "0", "1", "2", "3", "4", "5", "6", "7", "8", "9", "11", "takeover", "fallen",
+    "0", "1", "2", "3", "4", "5", "6", "7", "8", "9", "11", "13", "takeover", "fallen",
+];
+
+/// What acquires, peeks and clears never get: a peek asks for no cost and takes no slot, and a clear is lent the table alone.
+const NEVER: [&[usize]; 3] = [
+    &[],
+    &[5, 6, 8, 9, OFF_CLOCK],
+    &[1, 3, 4, 5, 6, 7, 8, 9, EARLY, OFF_CLOCK],
 ];
 
 /// Single calls on damaged tables reach everything.
 pub const SINGLE: Kind = Kind {
     name: "single",
     reach: [
-        &[0, 1, 2, 3, 4, 5, 6, 7, 8, 9, EARLY, TAKEOVER],
+        &[0, 1, 2, 3, 4, 5, 6, 7, 8, 9, EARLY, OFF_CLOCK, TAKEOVER],
         &[0, 1, 2, 3, 4, 7, EARLY],
         &[0, 2],
     ],
@@ -35,7 +43,11 @@ pub const SINGLE: Kind = Kind {
 /// Single calls on damaged tables of exactly as many slots as a table may have reach every number that depends on the table.
 pub const MOST: Kind = Kind {
     name: "most",
-    reach: [&[0, 2, 7, 8, 9, EARLY, TAKEOVER], &[0, 2, 7, EARLY], &[0]],
+    reach: [
+        &[0, 2, 7, 8, 9, EARLY, OFF_CLOCK, TAKEOVER],
+        &[0, 2, 7, EARLY],
+        &[0],
+    ],
     never: &[],
 };
 
@@ -43,7 +55,7 @@ pub const MOST: Kind = Kind {
 pub const BEYOND: Kind = Kind {
     name: "beyond",
     reach: [&[1, 2], &[2], &[2]],
-    never: &[0, 3, 4, 5, 6, 7, 8, 9, EARLY],
+    never: &[0, 3, 4, 5, 6, 7, 8, 9, EARLY, OFF_CLOCK],
 };
 
 /// A run starts with a cleared table, so neither 2 nor 7 can occur: nothing else than an admission writes in a slot, and
@@ -55,14 +67,18 @@ const NEVER_FALLING: &[usize] = &[2, 7, EARLY, FALLEN];
 
 pub const RISING: Kind = Kind {
     name: "rising",
-    reach: [&[0, 3, 4, 5, 6, 8, 9, TAKEOVER], &[0, 3, 4], &[0]],
+    reach: [
+        &[0, 3, 4, 5, 6, 8, 9, OFF_CLOCK, TAKEOVER],
+        &[0, 3, 4],
+        &[0],
+    ],
     never: NEVER_FALLING,
 };
 
 pub const FALLING: Kind = Kind {
     name: "falling",
     reach: [
-        &[0, 1, 3, 4, 5, 6, 8, 9, EARLY, TAKEOVER, FALLEN],
+        &[0, 1, 3, 4, 5, 6, 8, 9, EARLY, OFF_CLOCK, TAKEOVER, FALLEN],
         &[0, 1, 3, 4, EARLY, FALLEN],
         &[0],
     ],
@@ -83,20 +99,27 @@ pub const WIDE: Kind = Kind {
     never: FROM_A_CLEAR,
 };
 
-const CROWDED: [&[usize]; 3] = [&[0, 8, 9, EARLY, TAKEOVER], &[0, EARLY], &[0]];
+const CROWDED: [&[usize]; 3] = [&[0, 8, 9, EARLY, OFF_CLOCK, TAKEOVER], &[0, EARLY], &[0]];
 
 /// Runs on one or two slots, whose holders owe throughout.
 pub const LASTING: Kind = Kind {
     name: "lasting",
-    reach: [&[0, 8, 9, EARLY], &[0, EARLY], &[0]],
+    reach: [&[0, 8, 9, EARLY, OFF_CLOCK], &[0, EARLY], &[0]],
     never: FROM_A_CLEAR,
 };
 
-/// Document 001's case.
+/// A cost that is too much, and the same again later.
+pub const ENDING: Kind = Kind {
+    name: "ending",
+    reach: [&[0, 8, OFF_CLOCK], &[], &[0]],
+    never: &[1, 2, 3, 4, 5, 6, 7, 9, EARLY],
+};
+
+/// Document 001's case, which is over long before the clock is.
 pub const STEADY: Kind = Kind {
     name: "steady",
     reach: [&[0, 8], &[], &[0]],
-    never: NEVER_FALLING,
+    never: &[2, 7, EARLY, OFF_CLOCK, FALLEN],
 };
 
 const CALLS: [&str; 3] = ["acquire", "peek", "clear"];
@@ -131,7 +154,7 @@ impl Tally {
         let counts = &mut self.counts[row];
         counts[place.expect("a number of the documents")] += 1;
         counts[TAKEOVER] += u64::from(took_over);
-        counts[FALLEN] += u64::from(fell && matches!(number, 0 | 8 | 9));
+        counts[FALLEN] += u64::from(fell && matches!(number, 0 | 8 | 9 | 13));
         self.slots[row] = self.slots[row].max(slots);
     }
 
@@ -165,7 +188,9 @@ impl Tally {
 
     /// What cannot have occurred and did, in words.
     pub fn impossible(&self) -> Vec<String> {
-        self.found([self.kind.never; 3], |count| count > 0)
+        let mut found = self.found(NEVER, |count| count > 0);
+        found.extend(self.found([self.kind.never; 3], |count| count > 0));
+        found
     }
 
     /// Those of each call's places of which the count is so.

@@ -2,6 +2,7 @@
 
 mod border;
 mod damaged;
+mod ending;
 mod example;
 mod first;
 mod full;
@@ -42,10 +43,10 @@ pub struct Kind {
     pub source: Source,
 }
 
-pub const KINDS: [Kind; 11] = [
+pub const KINDS: [Kind; 12] = [
     Kind {
         name: "example",
-        reach: &[0, 1, 2, 3, 4, 5, 6, 8, 9, 10, 11],
+        reach: &[0, 1, 2, 3, 4, 5, 6, 8, 9, 10, 11, 13],
         source: Source::Listed(example::all),
     },
     Kind {
@@ -55,8 +56,13 @@ pub const KINDS: [Kind; 11] = [
     },
     Kind {
         name: "limit",
-        reach: &[0, 3, 4, 5, 6, 8, 9, 10, 11],
+        reach: &[0, 3, 4, 5, 6, 8, 9, 10, 11, 13],
         source: Source::Listed(limit::all),
+    },
+    Kind {
+        name: "ending",
+        reach: &[0, 8, 13],
+        source: Source::Listed(ending::all),
     },
     Kind {
         name: "full",
@@ -75,7 +81,7 @@ pub const KINDS: [Kind; 11] = [
     },
     Kind {
         name: "run",
-        reach: &[0, 3, 4, 5, 6, 8, 9, 10, 11],
+        reach: &[0, 3, 4, 5, 6, 8, 9, 10, 11, 13],
         source: Source::Drawn(4, run::one),
     },
     Kind {
@@ -85,12 +91,12 @@ pub const KINDS: [Kind; 11] = [
     },
     Kind {
         name: "damaged",
-        reach: &[0, 3, 6, 8, 9, 10, 11],
+        reach: &[0, 3, 6, 8, 9, 10, 11, 13],
         source: Source::Drawn(45, damaged::whole),
     },
     Kind {
         name: "pieces",
-        reach: &[0, 8, 9, 10, 11],
+        reach: &[0, 8, 9, 10, 11, 13],
         source: Source::Drawn(20, damaged::in_pieces),
     },
     Kind {

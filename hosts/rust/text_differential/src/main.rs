@@ -5,6 +5,7 @@ mod archive;
 mod cases;
 mod compare;
 mod conditions;
+mod ending;
 mod lending;
 #[path = "../../differential/src/lent.rs"]
 mod lent;

@@ -2,15 +2,18 @@
 //! each result; and what of this must have occurred and what not.
 
 use crate::cases::Kind;
+use crate::ending::{first_13, last_8, Answered};
 use crate::text::{begins_a_run, lines};
 
-/// What a line is to the reader; of the unreadable ones, the first sort that fits.
+/// What a line is to the reader, the first sort that fits; of the asks, those where a wait ends with the clock or just not.
 #[derive(Clone, Copy)]
 enum Sort {
     GoodFirst,
     RefusedFirst,
     UnreadableFirst,
     AfterTheEnd,
+    Last8,
+    First13,
     Ask,
     WithoutLf,
     TooLong,
@@ -24,12 +27,17 @@ enum Sort {
 
 use Sort::*;
 
-const SORTS: [(Sort, &str); 13] = [
+const SORTS: [(Sort, &str); 15] = [
     (GoodFirst, "good first line"),
     (RefusedFirst, "first line refused with 1 or 2"),
     (UnreadableFirst, "first line unreadable"),
     (AfterTheEnd, "line after the end of the run"),
-    (Ask, "ask that can be read"),
+    (Last8, "ask that must wait until the clock's last moment"),
+    (
+        First13,
+        "ask a millisecond later that gets 13 in place of such a wait",
+    ),
+    (Ask, "ask that can be read: other"),
     (WithoutLf, "unreadable: without LF"),
     (TooLong, "unreadable: longer than 128 bytes"),
     (Empty, "unreadable: empty"),
@@ -43,8 +51,11 @@ const SORTS: [(Sort, &str); 13] = [
 const UNREADABLE: usize = 10;
 /// A record that no admission can have left, which a text cannot come to.
 const CORRUPT: usize = 7;
-/// The numbers from 0 to 11.
-const NUMBERS: usize = 12;
+/// A wait that does not end within the clock.
+const OFF_CLOCK: usize = 13;
+const NUMBERS: [usize; 13] = [
+    0, 1, 2, 3, 4, 5, 6, CORRUPT, 8, 9, UNREADABLE, 11, OFF_CLOCK,
+];
 
 /// Of `railcadence_transcribe`, by their numbers.
 const RESULTS: [&str; 3] = [
@@ -56,7 +67,7 @@ const RESULTS: [&str; 3] = [
 pub struct Tally {
     pub cases: u64,
     /// By kind of case, and by number.
-    numbers: Vec<(&'static str, &'static [usize], [u64; NUMBERS])>,
+    numbers: Vec<(&'static str, &'static [usize], [u64; NUMBERS.len()])>,
     sorts: [u64; SORTS.len()],
     results: [u64; RESULTS.len()],
 }
@@ -65,6 +76,23 @@ pub struct Tally {
 fn number(answer: &[u8]) -> usize {
     let digits = answer.iter().take_while(|byte| byte.is_ascii_digit());
     digits.fold(0, |number, digit| 10 * number + (digit - b'0') as usize)
+}
+
+/// The place of a number in `NUMBERS`.
+fn place(number: usize) -> usize {
+    let place = NUMBERS.iter().position(|&known| known == number);
+    place.expect("a number of the documents")
+}
+
+/// Of the last of these lines.
+fn sort(lines: &[Answered]) -> Sort {
+    let (line, answer) = lines[lines.len() - 1];
+    match number(answer) {
+        UNREADABLE => unreadable_sort(line),
+        8 if last_8((line, answer)) => Last8,
+        OFF_CLOCK if lines.last_chunk().is_some_and(|four| first_13(*four)) => First13,
+        _ => Ask,
+    }
 }
 
 fn unreadable_sort(line: &[u8]) -> Sort {
@@ -92,7 +120,8 @@ impl Tally {
     }
 
     pub fn begin(&mut self, kind: &Kind) {
-        self.numbers.push((kind.name, kind.reach, [0; NUMBERS]));
+        let counts = [0; NUMBERS.len()];
+        self.numbers.push((kind.name, kind.reach, counts));
     }
 
     /// Counts a case that was compared.
@@ -100,14 +129,17 @@ impl Tally {
         self.cases += 1;
         let answers: Vec<usize> = lines(output).skip(1).map(number).collect();
         let (_, _, counts) = self.numbers.last_mut().expect("a kind");
-        answers.iter().for_each(|&number| counts[number] += 1);
+        answers
+            .iter()
+            .for_each(|&number| counts[place(number)] += 1);
         if !begins_a_run(input) {
             return self.count_ended(lines(input).count() as u64, &answers);
         }
         self.add(GoodFirst, 1);
-        for (line, number) in lines(input).skip(1).zip(answers) {
-            let read = number != UNREADABLE;
-            self.add(if read { Ask } else { unreadable_sort(line) }, 1);
+        // in a run, line n of the output answers line n of the input
+        let all: Vec<Answered> = lines(input).zip(lines(output)).collect();
+        for place in 1..all.len() {
+            self.add(sort(&all[..=place]), 1);
         }
     }
 
@@ -133,7 +165,8 @@ impl Tally {
     }
 
     pub fn table(&self) -> String {
-        let heads: String = (0..NUMBERS).map(|number| format!("{number:>8}")).collect();
+        let heads = NUMBERS.iter().map(|number| format!("{number:>8}"));
+        let heads: String = heads.collect();
         let mut text = format!("{:10}{heads}\n", "");
         for (name, _, counts) in &self.numbers {
             let cells: String = counts.iter().map(|count| format!("{count:>8}")).collect();
@@ -152,7 +185,8 @@ impl Tally {
 
     /// What cannot have occurred and did, in words.
     pub fn impossible(&self) -> Vec<String> {
-        let found = self.numbers.iter().filter(|kind| kind.2[CORRUPT] > 0);
+        let kinds = self.numbers.iter();
+        let found = kinds.filter(|kind| kind.2[place(CORRUPT)] > 0);
         found
             .map(|(name, ..)| format!("{name} {CORRUPT}"))
             .collect()
@@ -162,7 +196,7 @@ impl Tally {
     pub fn missing(&self) -> Vec<String> {
         let mut missing = Vec::new();
         for (name, reach, counts) in &self.numbers {
-            let never = reach.iter().filter(|&&number| counts[number] == 0);
+            let never = reach.iter().filter(|&&number| counts[place(number)] == 0);
             missing.extend(never.map(|number| format!("{name} {number}")));
         }
         let never = SORTS

@@ -8,6 +8,9 @@ pub fn lines(text: &[u8]) -> impl Iterator<Item = &[u8]> + Clone {
     text.split_inclusive(|&byte| byte == b'\n')
 }
 
+/// The clock's last moment.
+pub const LAST: u64 = (1 << 42) - 1;
+
 /// Whether the first line is a good plan, which gets no answer.
 pub fn begins_a_run(input: &[u8]) -> bool {
     let first = lines(input).next();

@@ -1,6 +1,6 @@
 //! One call as the archive did it, and what one mistake would have made of it.
 
-use super::Fault;
+use super::{move_the_end, Fault};
 use crate::call::Call;
 use crate::choose::LAST;
 use crate::engine::Engine;
@@ -8,7 +8,8 @@ use crate::lent::Lent;
 use crate::out::Out;
 use model::checks::MOST_SLOTS;
 use model::plan::Plan;
-use model::table::Table;
+use model::table::{Answer, Table};
+use std::array;
 
 /// The table before and after, and the answer.
 pub struct Done<'a, E> {
@@ -27,8 +28,8 @@ impl<E: Engine> Done<'_, E> {
             Call::Clear => self.spoil_clear(fault),
         }
         match (fault, self.out[0]) {
-            (Fault::Nobody, 1..=7 | 9 | 11) => self.out[1] = 0,
-            (Fault::SlotsShort, 0 | 3..=9 | 11) if self.has(MOST_SLOTS) => self.refuse(2),
+            (Fault::Nobody, 1..=7 | 9 | 11 | 13) => self.out[1] = 0,
+            (Fault::SlotsShort, 0 | 3..=9 | 11 | 13) if self.has(MOST_SLOTS) => self.refuse(2),
             (Fault::SlotsBeyond, 2) if self.has(MOST_SLOTS + 1) => self.out[0] = 0,
             _ => (),
         }
@@ -41,7 +42,7 @@ impl<E: Engine> Done<'_, E> {
     fn spoil_newest(&mut self, fault: Fault, moment: u64) {
         let newest = self.before.newest;
         match (fault, self.out[0]) {
-            (Fault::EqualEarly, 0 | 4..=9) if moment == newest => self.refuse(11),
+            (Fault::EqualEarly, 0 | 4..=9 | 13) if moment == newest => self.refuse(11),
             (Fault::EarlyLax, 11) if moment + 1 == newest => self.unchecked(),
             (Fault::EarlyFirst, 3) if moment < newest => self.out[0] = 11,
             (Fault::EarlyLast, 11) if self.call.subscriber() == 0 => self.out[0] = 4,
@@ -69,6 +70,12 @@ impl<E: Engine> Done<'_, E> {
             (Fault::NewestOutside, 0) => self.after.newest.overrun(0),
             (Fault::Outside, 0) => self.after.ids.overrun(0),
             (Fault::Before, 0) => self.after.columns[E::COLUMNS.len() - 1].underrun(0),
+            (Fault::OffClockWait, 13) => self.out[4] = 1,
+            (Fault::OffClockWrites, 13) => self.touch(0, self.own()),
+            (Fault::OffClockLate, 13) => self.out[0] = 3,
+            (Fault::EndlessClock | Fault::ClockShort | Fault::ClockLong, 8 | 13) => {
+                self.deny(fault, moment)
+            }
             (Fault::SixNumbers, _) => self.out.overrun(0),
             (Fault::FreeStrict, 0) if self.took_just_free(moment) => self.refuse(9),
             _ => (),
@@ -82,6 +89,7 @@ impl<E: Engine> Done<'_, E> {
             (Fault::PeekWrites, 0) => self.touch(E::COLUMNS.len() - 1, self.own()),
             (Fault::PeekNewest, 0) => self.after.newest[0] = moment as u64,
             (Fault::PeekUnchecked, 11) => self.unchecked(),
+            (Fault::PeekOffClock, 0) if self.out[3] > LAST => self.refuse(13),
             _ => (),
         }
     }
@@ -111,6 +119,15 @@ impl<E: Engine> Done<'_, E> {
         self.out.copy_from_slice(&[number, subscriber, 0, 0, 0]);
     }
 
+    /// Answers as if the clock ended elsewhere.
+    fn deny(&mut self, fault: Fault, moment: u128) {
+        let record = E::load(&self.before.columns, self.own());
+        let debt = record.debt(self.plan, moment);
+        let mut answer: Answer = array::from_fn(|place| u128::from(self.out[place]));
+        move_the_end(fault, self.plan, self.call, debt, &mut answer);
+        self.write(answer);
+    }
+
     /// Leaves the columns as they were before, and the newest moment as it is.
     fn unwrite(&mut self) {
         let newest = self.after.newest.clone();
@@ -126,9 +143,13 @@ impl<E: Engine> Done<'_, E> {
         table.newest = 0;
         let answer = self.call.on(self.plan, &mut table);
         table.newest = self.before.newest;
+        self.write(answer);
+        *self.after = Lent::new(&table);
+    }
+
+    fn write(&mut self, answer: Answer) {
         self.out
             .copy_from_slice(&answer.map(|number| number as u64));
-        *self.after = Lent::new(&table);
     }
 
     /// The slot that carries the call's subscriber after the call; beyond the table if none does.

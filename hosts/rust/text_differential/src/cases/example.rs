@@ -5,11 +5,12 @@ use crate::program::Feed;
 use crate::rng::Rng;
 use crate::text::lines;
 
-const TEXTS: [&[u8]; 4] = [
+const TEXTS: [&[u8]; 5] = [
     include_bytes!("../../../../../examples/worked.tsv"),
     include_bytes!("../../../../../examples/day.tsv"),
     include_bytes!("../../../../../examples/refused-plan.tsv"),
     include_bytes!("../../../../../examples/too-many-slots.tsv"),
+    include_bytes!("../../../../../examples/clock-end.tsv"),
 ];
 
 /// Each in one piece, from a file and in lines; the first byte by byte.

@@ -1,12 +1,12 @@
 //! Runs under one plan: a clock that mostly creeps and in some falls, few or many subscribers for the slots, and costs that
-//! keep slots busy, so that waits, refilling, takeover of free slots and a full table all occur again and again.
+//! keep slots busy, so that waits, refilling, takeover of free slots and a full table all occur again and again; half of them
+//! near the end of the clock, so that waits end beyond it.
 
 use super::Case;
 use crate::program::Feed;
 use crate::rng::Rng;
-use crate::text::{ask, plan, Terms};
+use crate::text::{ask, plan, Terms, LAST};
 
-const LAST: u64 = (1 << 42) - 1;
 const HOUR: u64 = 3_600_000;
 
 pub struct Run {
@@ -73,9 +73,10 @@ impl Run {
             subscribers,
             stride: rng.pick(&[1, 1, 7, 65_536, 1_000_003]),
             falls: rng.once_in(3),
-            moment: match rng.below(3) {
+            moment: match rng.below(4) {
                 0 => rng.below(10_000),
                 1 => rng.of_any_size(LAST),
+                2 => LAST - rng.below(terms.period),
                 _ => LAST - rng.below(drain.clamp(1, LAST)),
             },
             latest: 0,

@@ -2,7 +2,7 @@
 
 use super::{reading, writing, Fault, Spoil};
 
-pub const FAULTS: [Fault; 30] = [
+pub const FAULTS: [Fault; 32] = [
     (
         "wait-short",
         "the wait under 8 is one too short",
@@ -37,6 +37,16 @@ pub const FAULTS: [Fault; 30] = [
         "corrupt-for-early",
         "7 in place of 11, by the second implementation too",
         Spoil::BothWrite(writing::corrupt_for_early),
+    ),
+    (
+        "clock-short",
+        "13 where the wait ends at the clock's last moment",
+        Spoil::Writes(writing::clock_short),
+    ),
+    (
+        "off-clock-late",
+        "3 in place of 13",
+        Spoil::Writes(writing::off_clock_late),
     ),
     (
         "ten-dropped",

@@ -1,6 +1,7 @@
 //! Mistakes of a writer, as changes of what it wrote. The first line is the header.
 
 use super::Lines;
+use crate::ending::{last_8, numbers};
 use crate::text::{self, begins_a_run};
 
 const TEN: &[u8] = b"10\t0\t0\t0\t0\n";
@@ -29,7 +30,7 @@ pub fn swapped(lines: &mut Lines, _: &[u8]) {
 }
 
 pub fn nobody(lines: &mut Lines, _: &[u8]) {
-    let refusals = ["3", "5", "6", "9", "11"];
+    let refusals = ["3", "5", "6", "9", "11", "13"];
     each(lines, &refusals, |fields| fields[1] = "0".to_string());
 }
 
@@ -67,6 +68,20 @@ pub fn early_last(lines: &mut Lines, _: &[u8]) {
 
 pub fn corrupt_for_early(lines: &mut Lines, _: &[u8]) {
     each(lines, &["11"], |fields| fields[0] = "7".to_string());
+}
+
+/// In a run, line n of the output answers line n of the input.
+pub fn clock_short(lines: &mut Lines, input: &[u8]) {
+    for (answer, ask) in lines.iter_mut().zip(text::lines(input)).skip(1) {
+        if last_8((ask, answer)) {
+            let subscriber = numbers(answer)[1];
+            *answer = format!("13\t{subscriber}\t0\t0\t0\n").into_bytes();
+        }
+    }
+}
+
+pub fn off_clock_late(lines: &mut Lines, _: &[u8]) {
+    each(lines, &["13"], |fields| fields[0] = "3".to_string());
 }
 
 pub fn ten_dropped(lines: &mut Lines, _: &[u8]) {
