@@ -100,8 +100,6 @@ module _ {C P R : Type 0} (A : Account P R) (K : Columns C R) where
     pub look-remaining-within : (q : Query P) (c : C) → toldOfLook q c .remaining ≤ toldOfLook q c .quota
     -- Retry-After is enough, and no fewer seconds are
     pub retry-kept : (r : Request P) (c : C) → acquire (ruleOf A) K r c .answer .number ≡ 8 → Kept r c (told r c .«retry_after»)
-    -- a request that is not served while the clock lasts is told none
-    pub never-told : (r : Request P) (c : C) → acquire (ruleOf A) K r c .answer .number ≡ 13 → told r c .«retry_after» ≡ 0
     -- so is the reset, for the whole burst
     pub reset-kept :
         (r : Request P) (c : C) → (acquire (ruleOf A) K r c .answer .number ≡ 0) ⊎ (acquire (ruleOf A) K r c .answer .number ≡ 8) →
@@ -110,3 +108,5 @@ module _ {C P R : Type 0} (A : Account P R) (K : Columns C R) where
     pub look-reset-kept :
         (q : Query P) (c : C) (i : ℕ) → i < K .slots c → carries (K .ids c) (q .subscriber) i ≡ true →
         peek (ruleOf A) K q c .answer .number ≡ 0 → Renewed q c (toldOfLook q c .reset)
+    -- a request that is not served while the clock lasts is told no Retry-After
+    pub never-told : (r : Request P) (c : C) → acquire (ruleOf A) K r c .answer .number ≡ 13 → told r c .«retry_after» ≡ 0

@@ -116,6 +116,7 @@ impl Book {
         others.filter(|(_, list)| self.owed(list, s) > 0).count() == self.slots
     }
 
+    /// What the subscriber owes at the moment s.
     pub fn debt(&self, subscriber: u32, s: u128) -> u128 {
         let list = self.lists.get(&subscriber);
         list.map_or(0, |list| self.owed(list, s))

@@ -23,19 +23,9 @@ fn reckon(word: &str, numbers: &[u128]) -> (usize, Vec<u128>) {
             (2, vec![number, numbers[1], 0, 0, 0])
         }
         "cleared" => (1, vec![[0, 2][numbers[0] as usize], 0, 0, 0, 0]),
-        // of subscriber 7, with 1 left and reset at 2
-        "wait" => {
-            let ends_in_time = numbers[0] + numbers[1] <= LAST_MOMENT;
-            let told = vec![8, 7, 1, 2, numbers[1]];
-            (
-                2,
-                if ends_in_time {
-                    told
-                } else {
-                    vec![13, 7, 0, 0, 0]
-                },
-            )
-        }
+        // of subscriber 7, with 1 left and reset at 2 if the wait ends within the clock
+        "wait" if numbers[0] + numbers[1] <= LAST_MOMENT => (2, vec![8, 7, 1, 2, numbers[1]]),
+        "wait" => (2, vec![13, 7, 0, 0, 0]),
         "div_up" => (2, vec![div_up(numbers[0], numbers[1])]),
         _ => panic!("a line begins with {word:?}, which nothing here reckons"),
     }
