@@ -11,7 +11,7 @@ use Rattle.rate.specs.declared.answer.Cleared.the-variants.{Done, BadTab
 use Rattle.rate.specs.declared.answer.Outcome.{Outcome}
 use Rattle.rate.specs.declared.answer.Outcome.the-variants.{Admitted, Throttled, Refused}
 use Rattle.rate.specs.declared.answer.Reason.{Reason}
-use Rattle.rate.specs.declared.answer.Reason.the-variants.{BadPlan, BadTable, LateMoment, EarlyMoment, NoSubscriber, ZeroCost, CostAboveBurst, CorruptRecord, NotOnClock, TableFull}
+use Rattle.rate.specs.declared.answer.Reason.the-variants.{BadPlan, BadTable, LateMoment, EarlyMoment, NoSubscriber, ZeroCost, CostAboveBurst, CorruptRecord, OtherPlan, NotOnClock, TableFull}
 use Rattle.rate.specs.Decision.{Verdict, bare, reported, admitted, remaining, resetAt}
 use Rattle.rate.specs.Answer.{reasonNumber, verdictOf, answered, numbersOf, clearedNumbers}
 
@@ -47,6 +47,10 @@ pub corrupt-record : reasonNumber CorruptRecord ≡ 7
 unfolding reasonNumber
 corrupt-record = refl
 
+pub other-plan : reasonNumber OtherPlan ≡ 12
+unfolding reasonNumber
+other-plan = refl
+
 pub not-on-clock : reasonNumber NotOnClock ≡ 13
 unfolding reasonNumber
 not-on-clock = refl
@@ -66,6 +70,7 @@ refuses NoSubscriber = refl
 refuses ZeroCost = refl
 refuses CostAboveBurst = refl
 refuses CorruptRecord = refl
+refuses OtherPlan = refl
 refuses NotOnClock = refl
 refuses TableFull = refl
 

@@ -30,6 +30,7 @@ reason-numbers =
       zero-cost = answers.zero-cost;
       cost-above-burst = answers.cost-above-burst;
       corrupt-record = answers.corrupt-record;
+      other-plan = answers.other-plan;
       not-on-clock = answers.not-on-clock;
       table-full = answers.table-full;
     }

@@ -7,7 +7,7 @@ use Rattle.rate.specs.declared.answer.Numbers.{Numbers}
 use Rattle.rate.specs.declared.answer.Outcome.{Outcome}
 use Rattle.rate.specs.declared.answer.Outcome.the-variants.{Admitted, Throttled, Refused}
 use Rattle.rate.specs.declared.answer.Reason.{Reason}
-use Rattle.rate.specs.declared.answer.Reason.the-variants.{BadPlan, BadTable, LateMoment, EarlyMoment, NoSubscriber, ZeroCost, CostAboveBurst, CorruptRecord, NotOnClock, TableFull}
+use Rattle.rate.specs.declared.answer.Reason.the-variants.{BadPlan, BadTable, LateMoment, EarlyMoment, NoSubscriber, ZeroCost, CostAboveBurst, CorruptRecord, OtherPlan, NotOnClock, TableFull}
 use Rattle.rate.specs.Decision.{Verdict, bare}
 
 -- the number of each cause of a refusal
@@ -20,6 +20,7 @@ reasonNumber NoSubscriber = 4
 reasonNumber ZeroCost = 5
 reasonNumber CostAboveBurst = 6
 reasonNumber CorruptRecord = 7
+reasonNumber OtherPlan = 12
 reasonNumber NotOnClock = 13
 reasonNumber TableFull = 9
 

@@ -12,11 +12,13 @@ use Rattle.rate.specs.Account.{Account}
 pub data Fault (n : ℕ) : Type 0 where
   fine : n ≡ 0 → Fault n
   corrupt : n ≡ 7 → Fault n
+  -- document 02, Item 3: just after 7
+  elsewhere : n ≡ 12 → Fault n
 
 pub record Balanced {P R : Type 0} (A : Account P R) : Type 0 where
   -- a setting within its limits asks for a plan within its limits
   pub ok-plan : (p : P) → A .ok p ≡ true → planOk (A .plan p) ≡ true
-  -- a record is refused with 7
+  -- a record is refused with 7 or 12
   pub faults : (p : P) (at : ℕ) (r : R) → Fault (A .fault p at r)
   -- a sound record stays sound
   pub stays-sound : (p : P) (l k : ℕ) (r : R) → l ≤ k → A .fault p l r ≡ 0 → A .fault p k r ≡ 0

@@ -11,13 +11,13 @@ use Rattle.rate.specs.declared.answer.Answer.{Answer}
 use Rattle.rate.specs.declared.answer.Cleared.the-variants.{Done, BadTable as Unfit}
 use Rattle.rate.specs.declared.answer.Outcome.the-variants.{Admitted, Throttled, Refused}
 use Rattle.rate.specs.declared.answer.Reason.{Reason}
-use Rattle.rate.specs.declared.answer.Reason.the-variants.{BadPlan, BadTable, LateMoment, EarlyMoment, NoSubscriber, ZeroCost, CostAboveBurst, CorruptRecord, NotOnClock, TableFull}
+use Rattle.rate.specs.declared.answer.Reason.the-variants.{BadPlan, BadTable, LateMoment, EarlyMoment, NoSubscriber, ZeroCost, CostAboveBurst, CorruptRecord, OtherPlan, NotOnClock, TableFull}
 use Rattle.rate.specs.declared.retry.Retry.the-variants.{After, NotOnClock as OffClock}
 use Rattle.rate.specs.Decision.{Verdict, ZerosBeside, admissible, remaining, resetAt, retryAfter, admitted, retryFrom, denied, throttled}
 use Rattle.rate.specs.Answer.{reasonNumber, verdictOf, numbersOf, clearedNumbers}
 use Rattle.rate.specs.Account.{Account, judge, report}
 
--- document 01, 'When the gate says no', and document 02, Items 6 and 13: the number of each cause of a refusal
+-- document 01, 'When the gate says no', and document 02, Items 3, 6 and 13: the number of each cause of a refusal
 pub record ReasonNumbers : Type 0 where
   pub bad-plan : reasonNumber BadPlan ≡ 1
   pub bad-table : reasonNumber BadTable ≡ 2
@@ -27,6 +27,7 @@ pub record ReasonNumbers : Type 0 where
   pub zero-cost : reasonNumber ZeroCost ≡ 5
   pub cost-above-burst : reasonNumber CostAboveBurst ≡ 6
   pub corrupt-record : reasonNumber CorruptRecord ≡ 7
+  pub other-plan : reasonNumber OtherPlan ≡ 12
   pub not-on-clock : reasonNumber NotOnClock ≡ 13
   pub table-full : reasonNumber TableFull ≡ 9
 

@@ -14,6 +14,7 @@ pub enum Reason {
     ZeroCost,
     CostAboveBurst,
     CorruptRecord,
+    OtherPlan,
     NotOnClock,
     TableFull,
 }
@@ -64,6 +65,7 @@ pub fn reason_number(reason: Reason) -> u64
         Reason::ZeroCost => 5,
         Reason::CostAboveBurst => 6,
         Reason::CorruptRecord => 7,
+        Reason::OtherPlan => 12,
         Reason::NotOnClock => 13,
         Reason::TableFull => 9,
     }

@@ -39,8 +39,9 @@ pub fn answers() {
     reckon::refused(5, Reason::ZeroCost, shop);
     reckon::refused(6, Reason::CostAboveBurst, shop);
     reckon::refused(7, Reason::CorruptRecord, shop);
-    reckon::refused(8, Reason::NotOnClock, shop);
-    reckon::refused(9, Reason::TableFull, shop);
+    reckon::refused(8, Reason::OtherPlan, shop);
+    reckon::refused(9, Reason::NotOnClock, shop);
+    reckon::refused(10, Reason::TableFull, shop);
     reckon::cleared(0, Cleared::Done);
     reckon::cleared(1, Cleared::BadTable);
 }

@@ -17,6 +17,11 @@ pub ticks-none : (p : Plan) (at : ℕ) → ticksIn p (at - at) ≡ 0
 unfolding ticksIn
 ticks-none p at = simp (sub-self, zero-mul)
 
+-- a plan with a larger limit has more of them
+pub ticks-larger : (p q : Plan) (at : ℕ) → p .limit ≤ q .limit → ticksIn p at ≤ ticksIn q at
+unfolding ticksIn
+ticks-larger p q at h = mul-le-mul-left at h
+
 -- what costs come to together, and what nothing costs
 pub price-add : (p : Plan) (a b : ℕ) → price p (a + b) ≡ price p a + price p b
 unfolding price

@@ -33,10 +33,7 @@ pub struct Plan {
 fn is_one_to(most: u32, x: u32) -> bool
     ensures { λ r. ⌜ r ≡ oneTo most x ⌝ }
 {
-    if x < 1 {
-        return false;
-    }
-    x <= most
+    (1 <= x) & (x <= most)
 }
 
 // A product, or the largest u64 if it is 2^64 or more; by way of the upper and the lower 32 bits of one factor.
@@ -57,17 +54,12 @@ fn product(span: u64, limit: u32) -> u64
 }
 
 impl Plan {
-    // Whether limit, period and burst are within document 01's limits (check 1).
+    // Whether limit, period and burst are within document 01's limits (check 1). No branch is made of it.
     pub fn is_ok(self) -> bool
         ensures { λ r. ⌜ r ≡ planOk self ⌝ }
     {
-        if !is_one_to(MOST_LIMIT, self.limit) {
-            return false;
-        }
-        if !is_one_to(MOST_PERIOD, self.period) {
-            return false;
-        }
-        is_one_to(MOST_BURST, self.burst)
+        is_one_to(MOST_LIMIT, self.limit)
+            & (is_one_to(MOST_PERIOD, self.period) & is_one_to(MOST_BURST, self.burst))
     }
 
     // What a cost is in ticks.

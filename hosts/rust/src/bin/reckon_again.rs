@@ -17,9 +17,9 @@ fn reckon(word: &str, numbers: &[u128]) -> (usize, Vec<u128>) {
     match word {
         "plan" => (3, vec![plan_of(numbers).within_limits() as u128]),
         "moment" => (1, vec![(numbers[0] <= LAST_MOMENT) as u128]),
-        // the documents' numbers in the order of the checks, 13 in the place of 8; zeros beside each
+        // the documents' numbers in the order of the checks, 12 just after 7 and 13 in the place of 8; zeros beside each
         "refused" => {
-            let number = [1, 2, 3, 11, 4, 5, 6, 7, 13, 9][numbers[0] as usize];
+            let number = [1, 2, 3, 11, 4, 5, 6, 7, 12, 13, 9][numbers[0] as usize];
             (2, vec![number, numbers[1], 0, 0, 0])
         }
         "cleared" => (1, vec![[0, 2][numbers[0] as usize], 0, 0, 0, 0]),

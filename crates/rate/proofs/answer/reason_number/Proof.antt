@@ -46,10 +46,15 @@ returns-10 : tie.Need-returns-10
 unfolding reasonNumber
 returns-10 c = sym (ap reasonNumber (c .enum-told10 .given .1))
 
+returns-11 : tie.Need-returns-11
+unfolding reasonNumber
+returns-11 c = sym (ap reasonNumber (c .enum-told11 .given .1))
+
 pub reason-number-spec : {M : Type 1} → statement M
 reason-number-spec =
     tie.close
     (tie.spec
+    (λ c. search needs)
     (λ c. search needs)
     (λ c. search needs)
     (λ c. search needs)
@@ -69,4 +74,5 @@ reason-number-spec =
     returns-7
     returns-8
     returns-9
-    returns-10)
+    returns-10
+    returns-11)
