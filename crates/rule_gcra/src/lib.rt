@@ -16,6 +16,9 @@ use ticks::plan::Plan;
 use ticks::units::Millis;
 use ticks::units::Ticks;
 
+pub mod drained; // which records under the plans lent are free
+pub mod planned; // an ask and a look under the plans lent
+
 // What is answered to an ask, and what becomes of the record: it is kept, or the new TAT is put in its place.
 pub enum Judgement {
     Keep(Outcome),
@@ -46,14 +49,6 @@ fn is_sound(plan: Plan, owed: Ticks) -> bool
 {
     let capacity = plan.capacity();
     owed.0 <= capacity.0
-}
-
-// Whether the record owes nothing.
-pub fn is_free(plan: Plan, now: Millis, tat: Ticks) -> bool
-    ensures { λ r. ⌜ r ≡ gcra .free plan (now .0) tat ⌝ }
-{
-    let drained = plan.ticks_in(now);
-    tat.0 <= drained.0
 }
 
 // The record after a cost was admitted on top of what was owed.

@@ -135,6 +135,14 @@ pub judgement-spend : (outcome : Outcome) (bucket : Bucket) → judgementOf (Spe
 unfolding judgementOf
 judgement-spend outcome bucket = refl
 
+-- what `free` tests
+free-test :
+    (p : Plan) (at : ℕ) (b : Bucket) →
+    tokenBucket .free p at b
+    ≡ (leb (b .last .0) at && (leb (b .level .0) (capacity p) && leb (capacity p) (b .level .0 + ticksIn p (at - b .last .0))))
+unfolding tokenBucket free refilled
+free-test p at b = refl
+
 -- what is stored after an admission
 spent-level :
     (p : Plan) (at : ℕ) (b : Bucket) (cost : ℕ) →
@@ -154,6 +162,7 @@ token-bucket-laws =
       possible = λ p at b level last. fact-sound p at b (record { level = level; last = last });
       impossible-level = λ p at b h. rw (lt-leb (b .level .0) (capacity p) h);
       impossible-last = λ p at b h. rw (lt-leb (b .last .0) at h) (and-false (leb (b .level .0) (capacity p)));
+      free-test = free-test;
       spent-level = spent-level;
       spent-last = spent-last;
     }

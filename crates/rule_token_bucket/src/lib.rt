@@ -2,10 +2,12 @@
 // the moment of that admission; since then `limit` ticks a millisecond have come back, up to the capacity.
 ghost use mathlib.Core.Path.{_≡_};
 ghost use mathlib.Core.Bool.{false};
+ghost use Rattle.ticks.specs.declared.plan.Plan.{Plan};
+ghost use Rattle.ticks.specs.Grains.{InForce, WithinLimits};
 ghost use Rattle.rate.specs.Answer.{verdictOf};
 ghost use Rattle.rate.specs.Decision.{Admitting};
 ghost use Rattle.rate.specs.Account.{alone, judge, report, settled};
-ghost use Rattle.ticks.specs.Grains.{InForce};
+ghost use Rattle.plans.specs.Plans.{Looser};
 ghost use Rattle.rule_token_bucket.specs.declared.Bucket.{Bucket};
 ghost use Rattle.rule_token_bucket.specs.TokenBucket.{tokenBucket, sound, backlog, spend, judgementOf};
 use rate::answer::Outcome;
@@ -15,6 +17,8 @@ use std::num;
 use ticks::plan::Plan;
 use ticks::units::Millis;
 use ticks::units::Ticks;
+
+pub mod planned; // an ask and a look under the plans lent, and which records are free
 
 pub struct Bucket {
     pub level: Ticks,
@@ -79,19 +83,19 @@ pub fn is_free(plan: Plan, now: Millis, bucket: Bucket) -> bool
     owed.0 == 0
 }
 
-// Whether the record may owe nothing: if not, it is not free. It is exact of a sound record, whose last moment is not to come;
-// no branch is made of it: what the level lacks of a full bucket may be at most what has come back since.
+// Whether the record may owe nothing by the plan or by one that is no looser: if not, it is free by none of them. It is exact of
+// a record that is sound by the plan; no branch is made of it: what was left and what has come back since may be a full bucket.
 pub fn may_be_free(plan: Plan, now: Millis, bucket: Bucket) -> bool
     requires { ⌜ InForce plan (now .0) ⌝ }
-    ensures { λ r. ⌜ (r ≡ false → tokenBucket .free plan (now .0) bucket ≡ false) ⌝ }
+    ensures { λ r. ⌜ (r ≡ false → (q : Plan) → WithinLimits q → Looser plan q → tokenBucket .free q (now .0) bucket ≡ false) ⌝ }
 {
     let level = bucket.level;
     let capacity = plan.capacity();
     let last = bucket.last;
     let elapsed = Millis(num::wrapping_sub_u64(now.0, last.0));
     let refill = plan.wrapping_ticks_in(elapsed);
-    let lacking = Ticks(num::wrapping_sub_u64(capacity.0, level.0));
-    lacking.may_be_at_most(refill)
+    let refilled = Ticks(num::wrapping_add_u64(level.0, refill.0));
+    capacity.may_be_at_most(refilled)
 }
 
 // The record after a cost was admitted on top of what was owed.

@@ -7,13 +7,11 @@ use Prim.Native.Nat.{ℕ, zero, suc, _≤_}
 use native.Mathlib.Omega.{arith}
 use lib.Dec.{eqb, leb, ltb}
 use borrow.Author.Tests.{le-leb, lt-leb, leb-true, ltb-false, eq-eqb, ne-eqb}
-use Rattle.ticks.specs.declared.plan.Plan.{Plan}
-use Rattle.ticks.specs.Grains.{planOk, onClock, InForce}
-use Rattle.ticks.proofs.Limits.{in-force}
+use Rattle.ticks.specs.Grains.{onClock}
 use Rattle.ticks.proofs.Tests.{both}
 use Rattle.rate.proofs.Cases.{guard-0, guard-not-0}
 use Rattle.table.specs.Passed.{Stopped, bad-plan, bad-table, late-moment, early-moment, no-subscriber, Asked, Payable}
-use Rattle.table.specs.Checks.{mostSlots, slotsOk, Gate, gateOf, Toll, queryCheck, costCheck, requestCheck}
+use Rattle.table.specs.Checks.{mostSlots, slotsOk, Gate, Toll, queryCheck, costCheck, requestCheck}
 
 module _ (g : Gate) where
   pub number-1 : g .ok ≡ false → queryCheck g ≡ 1
@@ -79,10 +77,6 @@ module _ (g : Gate) where
       by : Asked g ⊎ ((n : ℕ) × Stopped g n) → Asked g
       by (inl a) = a
       by (inr s) = absurd (false≢true (sym (stops-not-0 g (s .1)) ∙ eq-eqb _ _ (sym (stops g (s .1)) ∙ e)))
-
--- a plan that has passed and the moment are those that the rules of reckoning require
-pub asked-in-force : (p : Plan) (slots newest moment subscriber : ℕ) → Asked (gateOf (planOk p) slots newest moment subscriber) → InForce p moment
-asked-in-force p slots newest moment subscriber a = in-force p moment (a .plan) (a .moment)
 
 -- a moment that has passed is not before the newest
 pub asked-since : (g : Gate) → Asked g → g .newest ≤ g .moment

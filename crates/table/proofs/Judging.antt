@@ -49,12 +49,13 @@ not-0 reason e = ap (λ (x : ℕ). eqb x 0) e ∙ refuses reason
 -- what the checks were asked, by what they were given
 module _ {C P R : Type 0} (U : Rule P R) (K : Columns C R) (c : C) {number : ℕ} {ok : Bool} {slots : ℕ} where
   pub request-says :
-      (r : Request P) →
-      number ≡ requestCheck (tollOf (gateOf ok slots (K .newest c) (r .query .moment) (r .query .subscriber)) (U .most (r .query .setting)) (r .cost)) →
-      ok ≡ U .ok (r .query .setting) → slots ≡ K .slots c → number ≡ requestCheck (toll U K r c)
-  request-says r says e f =
+      (r : Request P) {most : ℕ} →
+      number ≡ requestCheck (tollOf (gateOf ok slots (K .newest c) (r .query .moment) (r .query .subscriber)) most (r .cost)) →
+      ok ≡ U .ok (r .query .setting) → slots ≡ K .slots c → most ≡ U .most (r .query .setting) → number ≡ requestCheck (toll U K r c)
+  request-says r {most} says e f g =
       says
-      ∙ ap₂ (λ (o : Bool) (n : ℕ). requestCheck (tollOf (gateOf o n (K .newest c) (r .query .moment) (r .query .subscriber)) (U .most (r .query .setting)) (r .cost))) e f
+      ∙ ap₂ (λ (o : Bool) (n : ℕ). requestCheck (tollOf (gateOf o n (K .newest c) (r .query .moment) (r .query .subscriber)) most (r .cost))) e f
+      ∙ ap (λ (m : ℕ). requestCheck (tollOf (gate U K (r .query) c) m (r .cost))) g
 
   pub query-says :
       (q : Query P) → number ≡ queryCheck (gateOf ok slots (K .newest c) (q .moment) (q .subscriber)) → ok ≡ U .ok (q .setting) →

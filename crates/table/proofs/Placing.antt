@@ -17,10 +17,12 @@ use Rattle.table.specs.declared.search.Place.the-variants.{Nowhere, At}
 use Rattle.table.specs.Request.{Query, Request}
 use Rattle.table.specs.Checks.{requestCheck}
 use Rattle.table.specs.Rule.{Rule, ruleOf}
+use Rattle.table.specs.Passed.{Payable}
 use Rattle.table.specs.Places.{Own, Unknown, Vacant, Full, Taken, kept, taken}
 use Rattle.table.specs.Slots.{Columns, seek, carries, own, vacant, lowestFree}
 use Rattle.table.specs.Calls.{Slot, none, at, Ruling, keep, write, ruled, newcomer, slotFrom, slotFor, judgeIn, judgeCall, toll}
 use Rattle.table.proofs.Cases.{ruled-writes, ruled-keeps}
+use Rattle.table.proofs.Checks.{payable}
 use Rattle.table.proofs.Seek.{Sought, sought, seek-at, seek-nowhere}
 
 module _ {C P R : Type 0} (K : Columns C R) (q : Query P) (c : C) where
@@ -106,3 +108,18 @@ module _ {C P R : Type 0} (U : Rule P R) (K : Columns C R) (r : Request P) (c : 
   -- so what is written lies within the columns
   pub write-within : {v : Verdict} {i : ℕ} {held : R} → judgeCall U K r c ≡ write v i held → i < K .slots c
   write-within e = taken-within U K (r .query) c (subst (λ (x : Ruling R). Effect x) e effect .place)
+
+  -- .. and only after all checks have passed
+  abbrev Writes : Ruling R → Type 0
+  Writes (keep v) = ⊥
+  Writes (write v i held) = Unit {0}
+
+  pub write-payable : {v : Verdict} {i : ℕ} {held : R} → judgeCall U K r c ≡ write v i held → Payable (toll U K r c)
+  unfolding judgeCall
+  write-payable e = by (eqb (requestCheck (toll U K r c)) 0) refl
+    where
+      by : (b : Bool) → eqb (requestCheck (toll U K r c)) 0 ≡ b → Payable (toll U K r c)
+      by true t = payable (toll U K r c) (eqb-true _ _ t)
+      by false t =
+          absurd (subst (λ (x : Ruling R). Writes x)
+          (sym e ∙ guard-not-0 (λ n. keep (bare n)) (requestCheck (toll U K r c)) (judgeIn U r (slotFor U K (r .query) c)) t) tt)

@@ -4,6 +4,7 @@ use Prim.Native.Nat.{ℕ}
 use mathlib.Core.List.{List, [], _∷_, _++_}
 use Rattle.rate.specs.declared.answer.Numbers.{Numbers}
 use Rattle.ticks.specs.declared.plan.Plan.{Plan}
+use Rattle.plans.specs.Plans.{Plans, plansOf}
 use Rattle.table.specs.Request.{Request, requestOf}
 use Rattle.table.specs.Rule.{Rule}
 use Rattle.table.specs.Slots.{Columns}
@@ -13,10 +14,11 @@ use Rattle.table.specs.Calls.{acquire, clear}
 unfoldable pub plan : Plan
 plan = record { limit = 3; period = 1000; burst = 2 }
 
-unfoldable pub ask : ℕ → ℕ → ℕ → Request Plan
-ask = requestOf plan
+-- .. the only one that is lent
+unfoldable pub ask : ℕ → ℕ → ℕ → Request Plans
+ask = requestOf (plansOf (plan ∷ []) 0)
 
-unfoldable pub asks : List (Request Plan)
+unfoldable pub asks : List (Request Plans)
 asks =
     ask 1000 7 1
     ∷ ask 1000 7 1
@@ -57,9 +59,9 @@ burstAnswer = line 0 7 0 1667 0
 unfoldable pub nobodyAnswer : Numbers
 nobodyAnswer = line 4 0 0 0 0
 
-module _ {C R : Type 0} (U : Rule Plan R) (K : Columns C R) where
+module _ {C R : Type 0} (U : Rule Plans R) (K : Columns C R) where
   -- the answers to a list of asks, each on the columns as the one before left them
-  unfoldable pub played : C → List (Request Plan) → List Numbers
+  unfoldable pub played : C → List (Request Plans) → List Numbers
   played c [] = []
   played c (r ∷ rest) = acquire U K r c .answer ∷ played (acquire U K r c .after) rest
 

@@ -9,12 +9,14 @@ use Rattle.rate.specs.Decision.{remaining, resetAt, retryAfter, bare, reported,
 use Rattle.rate.specs.Account.{soundness, guard, judge, settled}
 use Rattle.rule_gcra.specs.Gcra.{gcra, fresh, sound, free, later, backlog, admits, spend}
 use Rattle.ticks.specs.Grains.{ticksIn, price, capacity, divUp, oneTo, planOk, onClock}
+use Rattle.plans.specs.Plans.{known, planAt, allOk, countOk, lentOk, plansOk, possible, owing, faultOf, current}
 use Rattle.table.specs.Checks.{slotsOk, queryCheck, costCheck, requestCheck}
 use Rattle.table.specs.Slots.{common, seekFrom, seek, carries, own, vacant, lowestFree}
 use Rattle.table.specs.Calls.{ruled, newcomer, judgeIn, commit, slotFrom, slotFor, judgeCall, acquire, clear}
 use Rattle.table.specs.Worked.{plan, ask, asks, line, answers, burstAnswer, nobodyAnswer, played, examples, expected}
-use Rattle.table_gcra.specs.Table.{tableOf, columns, rule}
+use Rattle.table_gcra.specs.Table.{records, tableOf, columns, rule}
 
-pub worked : (id tat newest : ℕ) → examples rule columns (tableOf (id ∷ []) (tat ∷ []) newest) ≡ expected
-unfolding answered remaining resetAt retryAfter bare reported admitted retryFrom denied throttled soundness guard judge settled gcra fresh sound free later backlog admits spend ticksIn price capacity divUp oneTo planOk onClock slotsOk queryCheck costCheck requestCheck common seekFrom seek carries own vacant lowestFree ruled newcomer judgeIn commit slotFrom slotFor judgeCall acquire clear plan ask asks line answers burstAnswer nobodyAnswer played examples expected columns
-worked id tat newest = refl
+pub worked :
+    (id number tat newest : ℕ) → examples rule columns (tableOf (id ∷ []) (number ∷ []) (tat ∷ []) newest) ≡ expected
+unfolding answered remaining resetAt retryAfter bare reported admitted retryFrom denied throttled soundness guard judge settled gcra fresh sound free later backlog admits spend ticksIn price capacity divUp oneTo planOk onClock slotsOk queryCheck costCheck requestCheck common seekFrom seek carries own vacant lowestFree ruled newcomer judgeIn commit slotFrom slotFor judgeCall acquire clear plan ask asks line answers burstAnswer nobodyAnswer played examples expected records known planAt allOk countOk lentOk plansOk possible owing faultOf current
+worked id number tat newest = refl

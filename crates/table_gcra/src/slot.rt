@@ -1,38 +1,48 @@
-// The slot of an acquire (document 01, 'Seats'): the own one, or else the lowest free one, which is empty or owes nothing.
+// The slot of an acquire (document 01, 'Seats'): the own one, or else the lowest free one, which is empty or owes nothing by its own
+// plan.
 ghost use mathlib.Core.Path.{_≡_};
-ghost use Prim.Native.Nat.{_≤_};
+ghost use Prim.Native.Nat.{ℕ, _≤_};
 ghost use lib.ListN.{length};
-ghost use Rattle.ticks.specs.Grains.{InForce};
+ghost use Rattle.plans.specs.Lent.{plansIn};
+ghost use Rattle.plans.specs.Plans.{Plans, plansOf, Lending};
+ghost use Rattle.rule_gcra.specs.Planned.{Drained};
 ghost use Rattle.table.specs.Request.{queryOf};
 ghost use Rattle.table.specs.Slots.{vacant, lowestFree, seek, NoneBelow};
 ghost use Rattle.table.specs.Calls.{slotFor};
-ghost use Rattle.table_gcra.specs.Table.{columnsOf, columns, rule, slotOf};
+ghost use Rattle.table_gcra.specs.Table.{columnsOf, columns, rule, slotOf, Even};
+use plans::loosest;
+use rule_gcra::drained;
 use table::search;
 use table::search::Place;
-use ticks::plan::Plan;
 use ticks::units::Millis;
 use ticks::units::Ticks;
 
 // A slot with the record to judge, if there is one.
 pub enum Slot {
     None,
-    At { place: usize, tat: Ticks },
+    At {
+        place: usize,
+        number: u32,
+        tat: Ticks,
+    },
 }
 
-// The lowest free slot before one, where none below another is free: slot by slot.
+// The lowest free slot before one, where none below another is free: slot by slot. `column` has the moment in ticks of each plan.
 fn free_between(
-    plan: Plan,
+    column: &[u64; 16],
+    lent: usize,
     ids: &[u32],
+    numbers: &[u8],
     tats: &[u64],
-    moment: Millis,
     from: usize,
     to: usize,
 ) -> Place
-    requires { ⌜ length (now ids) ≡ length (now tats) ⌝ }
+    requires { ⌜ Even (now ids) (now numbers) (now tats) ⌝ }
     requires { ⌜ to ≤ length (now ids) ⌝ }
-    requires { ⌜ NoneBelow (vacant rule columns plan (moment .0) (columnsOf (now ids) (now tats))) from ⌝ }
-    ensures { λ r. ⌜ r ≡ seek (vacant rule columns plan (moment .0)
-        (columnsOf (now (ids .entry)) (now (tats .entry)))) to ⌝ }
+    requires { ⌜ lent ≤ 16 ⌝ }
+    ensures { λ r. ⌜ ((p : Plans) (at : ℕ) → lent ≡ length (p .plans) → Drained (p .plans) at (now (column .entry)) →
+        NoneBelow (vacant rule columns p at (columnsOf (now (ids .entry)) (now (numbers .entry)) (now (tats .entry)))) from →
+        r ≡ seek (vacant rule columns p at (columnsOf (now (ids .entry)) (now (numbers .entry)) (now (tats .entry)))) to) ⌝ }
 {
     let mut i = from;
     loop {
@@ -42,26 +52,35 @@ fn free_between(
         if ids[i] == 0 {
             break Place::At(i);
         }
-        if rule_gcra::is_free(plan, moment, Ticks(tats[i])) {
+        if drained::is_free(column, lent, numbers[i], Ticks(tats[i])) {
             break Place::At(i);
         }
         i += 1;
     }
 }
 
-// The lowest free slot. Blocks in which none is empty and no TAT may be drained are passed over whole.
-fn lowest_free(plan: Plan, ids: &[u32], tats: &[u64], moment: Millis) -> Place
-    requires { ⌜ length (now ids) ≡ length (now tats) ⌝ }
-    requires { ⌜ InForce plan (moment .0) ⌝ }
-    ensures { λ r. ⌜ r ≡ lowestFree rule columns plan (moment .0)
-        (columnsOf (now (ids .entry)) (now (tats .entry))) ⌝ }
+// The lowest free slot. Blocks in which none is empty and no TAT may be drained by any of the plans are passed over whole.
+fn lowest_free(
+    plans: &[u32],
+    asked: u32,
+    ids: &[u32],
+    numbers: &[u8],
+    tats: &[u64],
+    moment: Millis,
+) -> Place
+    requires { ⌜ Even (now ids) (now numbers) (now tats) ⌝ }
+    requires { ⌜ Lending (plansOf (plansIn (now plans)) asked) (moment .0) ⌝ }
+    ensures { λ r. ⌜ r ≡ lowestFree rule columns (plansOf (plansIn (now (plans .entry))) asked) (moment .0)
+        (columnsOf (now (ids .entry)) (now (numbers .entry)) (now (tats .entry))) ⌝ }
 {
-    let drained = plan.ticks_in(moment);
+    let column = drained::drained(plans, moment);
+    let lent = plans::count(plans);
+    let most = loosest::loosest(plans).ticks_in(moment);
     let mut at = 0;
     loop {
-        let from = search::skip(ids, tats, at, drained);
+        let from = search::skip(ids, tats, at, most);
         let end = search::block_end(from, ids.len());
-        if let Place::At(free) = free_between(plan, ids, tats, moment, from, end) {
+        if let Place::At(free) = free_between(&column, lent, ids, numbers, tats, from, end) {
             break Place::At(free);
         }
         if ids.len() <= end {
@@ -71,24 +90,34 @@ fn lowest_free(plan: Plan, ids: &[u32], tats: &[u64], moment: Millis) -> Place
     }
 }
 
-// The own slot with its record, or else the lowest free slot with a fresh one.
-pub fn slot_for(plan: Plan, ids: &[u32], tats: &[u64], moment: Millis, subscriber: u32) -> Slot
-    requires { ⌜ length (now ids) ≡ length (now tats) ⌝ }
-    requires { ⌜ InForce plan (moment .0) ⌝ }
-    ensures { λ r. ⌜ slotOf r ≡ slotFor rule columns (queryOf plan (moment .0) subscriber)
-        (columnsOf (now (ids .entry)) (now (tats .entry))) ⌝ }
+// The own slot with its record, or else the lowest free slot with a fresh one under the plan asked for.
+pub fn slot_for(
+    plans: &[u32],
+    asked: u32,
+    ids: &[u32],
+    numbers: &[u8],
+    tats: &[u64],
+    moment: Millis,
+    subscriber: u32,
+) -> Slot
+    requires { ⌜ Even (now ids) (now numbers) (now tats) ⌝ }
+    requires { ⌜ Lending (plansOf (plansIn (now plans)) asked) (moment .0) ⌝ }
+    ensures { λ r. ⌜ slotOf r ≡ slotFor rule columns (queryOf (plansOf (plansIn (now (plans .entry))) asked) (moment .0) subscriber)
+        (columnsOf (now (ids .entry)) (now (numbers .entry)) (now (tats .entry))) ⌝ }
 {
     if let Place::At(own) = search::find(ids, subscriber) {
         return Slot::At {
             place: own,
+            number: numbers[own] as u32,
             tat: Ticks(tats[own]),
         };
     }
-    let Place::At(free) = lowest_free(plan, ids, tats, moment) else {
+    let Place::At(free) = lowest_free(plans, asked, ids, numbers, tats, moment) else {
         return Slot::None;
     };
     Slot::At {
         place: free,
+        number: asked,
         tat: rule_gcra::fresh(),
     }
 }

@@ -1,4 +1,5 @@
 -- The laws of the token bucket engine's table.
 pub mod Columns
+pub mod Planned
 pub mod Worked
 pub mod Laws

@@ -1,5 +1,7 @@
 // An acquire judged on columns that it only reads: what is answered, and what is to be written.
 ghost use mathlib.Core.Path.{_≡_};
+ghost use Rattle.plans.specs.Lent.{plansIn};
+ghost use Rattle.plans.specs.Plans.{plansOf};
 ghost use Rattle.table.specs.Request.{requestOf};
 ghost use Rattle.table.specs.Calls.{judgeCall};
 ghost use Rattle.table_token_bucket.specs.Table.{tableOf, columns, rule, rulingOf};
@@ -9,10 +11,10 @@ use rate::answer::Outcome;
 use rate::answer::Reason;
 use rule_token_bucket::Bucket;
 use rule_token_bucket::Judgement;
+use rule_token_bucket::planned;
 use table::check;
 use table::check::Check;
 use table::columns;
-use ticks::plan::Plan;
 use ticks::units::Millis;
 
 pub enum Ruling {
@@ -26,35 +28,44 @@ pub enum Ruling {
 
 // The checks; then the record in its slot, of which there may be none. Only an admission writes.
 pub fn judge(
-    plan: Plan,
+    plans: &[u32],
     ids: &[u32],
+    numbers: &[u8],
     levels: &[u64],
     lasts: &[u64],
     newest: Millis,
     moment: Millis,
     subscriber: u32,
+    plan: u32,
     cost: u32,
 ) -> Ruling
-    ensures { λ r. ⌜ rulingOf r ≡ judgeCall rule columns (requestOf plan (moment .0) subscriber cost)
-        (tableOf (now (ids .entry)) (now (levels .entry)) (now (lasts .entry)) (newest .0)) ⌝ }
+    ensures { λ r. ⌜ rulingOf plan r ≡ judgeCall rule columns (requestOf (plansOf (plansIn (now (plans .entry))) plan) (moment .0) subscriber cost)
+        (tableOf (now (ids .entry)) (now (numbers .entry)) (now (levels .entry)) (now (lasts .entry)) (newest .0)) ⌝ }
 {
-    let slots = columns::common(columns::common(ids.len(), levels.len()), lasts.len());
+    let records = columns::common(columns::common(ids.len(), levels.len()), lasts.len());
+    let slots = columns::common(records, numbers.len());
+    let ok = plans::is_ok(plans, plan);
+    let most = plans::plan_at(plans, plan).burst;
     if let Check::Failed(reason) = check::request(
-        plan.is_ok(),
+        ok,
         slots,
         newest,
         moment,
         subscriber,
-        plan.burst,
+        most,
         cost,
     ) {
         return Ruling::Keep(Outcome::Refused(reason));
     }
-    let Slot::At { place, bucket } = slot::slot_for(plan, ids, levels, lasts, moment, subscriber)
+    let Slot::At {
+        place,
+        number,
+        bucket,
+    } = slot::slot_for(plans, plan, ids, numbers, levels, lasts, moment, subscriber)
     else {
         return Ruling::Keep(Outcome::Refused(Reason::TableFull));
     };
-    match rule_token_bucket::judge(plan, moment, bucket, cost) {
+    match planned::judge(plans, plan, moment, number, bucket, cost) {
         Judgement::Keep(outcome) => Ruling::Keep(outcome),
         Judgement::Spend { outcome, bucket } => Ruling::Write {
             outcome,

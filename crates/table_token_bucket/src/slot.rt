@@ -1,15 +1,19 @@
 // The record in a slot, and the slot of an acquire (document 01, 'Seats'): the own one, or else the lowest free one, which is empty
-// or owes nothing.
+// or owes nothing by its own plan.
 ghost use mathlib.Core.Path.{_≡_};
 ghost use mathlib.Core.Bool.{false};
-ghost use Prim.Native.Nat.{_≤_};
+ghost use Prim.Native.Nat.{ℕ, _≤_};
 ghost use lib.ListN.{length};
 ghost use Rattle.ticks.specs.Grains.{InForce};
+ghost use Rattle.plans.specs.Lent.{plansIn};
+ghost use Rattle.plans.specs.Plans.{plansOf, Lending};
 ghost use Rattle.table.specs.Request.{queryOf};
-ghost use Rattle.table.specs.Slots.{vacant, lowestFree, seek, NoneFrom, NoneBelow};
+ghost use Rattle.table.specs.Slots.{carries, vacant, lowestFree, seek, NoneFrom, NoneBelow};
 ghost use Rattle.table.specs.Calls.{slotFor};
-ghost use Rattle.table_token_bucket.specs.Table.{columnsOf, columns, rule, bucketAt, slotOf, Even, Within};
+ghost use Rattle.table_token_bucket.specs.Table.{columnsOf, columns, rule, bucketAt, slotOf, Even, Paired, Within, NoneFree};
+use plans::loosest;
 use rule_token_bucket::Bucket;
+use rule_token_bucket::planned;
 use table::search;
 use table::search::Place;
 use ticks::plan::Plan;
@@ -19,10 +23,14 @@ use ticks::units::Ticks;
 // A slot with the record to judge, if there is one.
 pub enum Slot {
     None,
-    At { place: usize, bucket: Bucket },
+    At {
+        place: usize,
+        number: u32,
+        bucket: Bucket,
+    },
 }
 
-// The record at a place.
+// The bucket at a place.
 pub fn bucket_at(levels: &[u64], lasts: &[u64], place: usize) -> Bucket
     requires { ⌜ Within (now levels) (now lasts) place ⌝ }
     ensures { λ r. ⌜ r ≡ bucketAt (now (levels .entry)) (now (lasts .entry)) place ⌝ }
@@ -36,7 +44,7 @@ pub fn bucket_at(levels: &[u64], lasts: &[u64], place: usize) -> Bucket
 // So many slots are tested together, two by one vector instruction.
 const BLOCK: usize = 8;
 
-// Whether one of the slots from one up to another may be free: if not, none is.
+// Whether one of the slots from one up to another may be free by the plan or by one that is no looser: if not, none is.
 fn may_be_vacant(
     plan: Plan,
     ids: &[u32],
@@ -46,11 +54,11 @@ fn may_be_vacant(
     from: usize,
     to: usize,
 ) -> bool
-    requires { ⌜ Even (now ids) (now levels) (now lasts) ⌝ }
+    requires { ⌜ Paired (now ids) (now levels) (now lasts) ⌝ }
     requires { ⌜ to ≤ length (now ids) ⌝ }
     requires { ⌜ InForce plan (moment .0) ⌝ }
-    ensures { λ r. ⌜ (r ≡ false → NoneFrom (vacant rule columns plan (moment .0)
-        (columnsOf (now (ids .entry)) (now (levels .entry)) (now (lasts .entry)))) from to) ⌝ }
+    ensures { λ r. ⌜ (r ≡ false → NoneFrom (carries (now (ids .entry)) 0) from to
+        × NoneFree plan (moment .0) (now (levels .entry)) (now (lasts .entry)) from to) ⌝ }
 {
     let mut may = search::may_carry(ids, from, to, 0);
     let mut i = from;
@@ -61,7 +69,7 @@ fn may_be_vacant(
     may
 }
 
-// The place from a given one on up to which no slot, by whole blocks, is free.
+// The place from a given one on up to which no slot, by whole blocks, is free by the plan or by one that is no looser.
 fn skip(
     plan: Plan,
     ids: &[u32],
@@ -70,12 +78,12 @@ fn skip(
     moment: Millis,
     from: usize,
 ) -> usize
-    requires { ⌜ Even (now ids) (now levels) (now lasts) ⌝ }
+    requires { ⌜ Paired (now ids) (now levels) (now lasts) ⌝ }
     requires { ⌜ from ≤ length (now ids) ⌝ }
     requires { ⌜ InForce plan (moment .0) ⌝ }
     ensures { λ r. ⌜ (from ≤ r) × (r ≤ length (now (ids .entry))) ⌝ }
-    ensures { λ r. ⌜ NoneFrom (vacant rule columns plan (moment .0)
-        (columnsOf (now (ids .entry)) (now (levels .entry)) (now (lasts .entry)))) from r ⌝ }
+    ensures { λ r. ⌜ NoneFrom (carries (now (ids .entry)) 0) from r
+        × NoneFree plan (moment .0) (now (levels .entry)) (now (lasts .entry)) from r ⌝ }
 {
     let mut at = from;
     while BLOCK <= ids.len() - at
@@ -86,21 +94,24 @@ fn skip(
     at
 }
 
-// The lowest free slot before one, where none below another is free: slot by slot.
+// The lowest free slot before one, where none below another is free: slot by slot, each by its own plan.
 fn free_between(
-    plan: Plan,
+    plans: &[u32],
     ids: &[u32],
+    numbers: &[u8],
     levels: &[u64],
     lasts: &[u64],
     moment: Millis,
     from: usize,
     to: usize,
 ) -> Place
-    requires { ⌜ Even (now ids) (now levels) (now lasts) ⌝ }
+    requires { ⌜ Even (now ids) (now numbers) (now levels) (now lasts) ⌝ }
     requires { ⌜ to ≤ length (now ids) ⌝ }
-    requires { ⌜ NoneBelow (vacant rule columns plan (moment .0) (columnsOf (now ids) (now levels) (now lasts))) from ⌝ }
-    ensures { λ r. ⌜ r ≡ seek (vacant rule columns plan (moment .0)
-        (columnsOf (now (ids .entry)) (now (levels .entry)) (now (lasts .entry)))) to ⌝ }
+    ensures { λ r. ⌜ ((asked : ℕ) →
+        NoneBelow (vacant rule columns (plansOf (plansIn (now (plans .entry))) asked) (moment .0)
+        (columnsOf (now (ids .entry)) (now (numbers .entry)) (now (levels .entry)) (now (lasts .entry)))) from →
+        r ≡ seek (vacant rule columns (plansOf (plansIn (now (plans .entry))) asked) (moment .0)
+        (columnsOf (now (ids .entry)) (now (numbers .entry)) (now (levels .entry)) (now (lasts .entry)))) to) ⌝ }
 {
     let mut i = from;
     loop {
@@ -110,25 +121,44 @@ fn free_between(
         if ids[i] == 0 {
             break Place::At(i);
         }
-        if rule_token_bucket::is_free(plan, moment, bucket_at(levels, lasts, i)) {
+        let number = numbers[i] as u32;
+        if planned::is_free(plans, moment, number, bucket_at(levels, lasts, i)) {
             break Place::At(i);
         }
         i += 1;
     }
 }
 
-// The lowest free slot. Blocks in which none may be free are passed over whole.
-fn lowest_free(plan: Plan, ids: &[u32], levels: &[u64], lasts: &[u64], moment: Millis) -> Place
-    requires { ⌜ Even (now ids) (now levels) (now lasts) ⌝ }
-    requires { ⌜ InForce plan (moment .0) ⌝ }
-    ensures { λ r. ⌜ r ≡ lowestFree rule columns plan (moment .0)
-        (columnsOf (now (ids .entry)) (now (levels .entry)) (now (lasts .entry))) ⌝ }
+// The lowest free slot. Blocks in which none may be free by any of the plans are passed over whole.
+fn lowest_free(
+    plans: &[u32],
+    asked: u32,
+    ids: &[u32],
+    numbers: &[u8],
+    levels: &[u64],
+    lasts: &[u64],
+    moment: Millis,
+) -> Place
+    requires { ⌜ Even (now ids) (now numbers) (now levels) (now lasts) ⌝ }
+    requires { ⌜ Lending (plansOf (plansIn (now plans)) asked) (moment .0) ⌝ }
+    ensures { λ r. ⌜ r ≡ lowestFree rule columns (plansOf (plansIn (now (plans .entry))) asked) (moment .0)
+        (columnsOf (now (ids .entry)) (now (numbers .entry)) (now (levels .entry)) (now (lasts .entry))) ⌝ }
 {
+    let loosest = loosest::loosest(plans);
     let mut at = 0;
     loop {
-        let from = skip(plan, ids, levels, lasts, moment, at);
+        let from = skip(loosest, ids, levels, lasts, moment, at);
         let end = search::block_end(from, ids.len());
-        if let Place::At(free) = free_between(plan, ids, levels, lasts, moment, from, end) {
+        if let Place::At(free) = free_between(
+            plans,
+            ids,
+            numbers,
+            levels,
+            lasts,
+            moment,
+            from,
+            end,
+        ) {
             break Place::At(free);
         }
         if ids.len() <= end {
@@ -138,31 +168,35 @@ fn lowest_free(plan: Plan, ids: &[u32], levels: &[u64], lasts: &[u64], moment: M
     }
 }
 
-// The own slot with its record, or else the lowest free slot with a fresh one.
+// The own slot with its record, or else the lowest free slot with a fresh one under the plan asked for.
 pub fn slot_for(
-    plan: Plan,
+    plans: &[u32],
+    asked: u32,
     ids: &[u32],
+    numbers: &[u8],
     levels: &[u64],
     lasts: &[u64],
     moment: Millis,
     subscriber: u32,
 ) -> Slot
-    requires { ⌜ Even (now ids) (now levels) (now lasts) ⌝ }
-    requires { ⌜ InForce plan (moment .0) ⌝ }
-    ensures { λ r. ⌜ slotOf r ≡ slotFor rule columns (queryOf plan (moment .0) subscriber)
-        (columnsOf (now (ids .entry)) (now (levels .entry)) (now (lasts .entry))) ⌝ }
+    requires { ⌜ Even (now ids) (now numbers) (now levels) (now lasts) ⌝ }
+    requires { ⌜ Lending (plansOf (plansIn (now plans)) asked) (moment .0) ⌝ }
+    ensures { λ r. ⌜ slotOf r ≡ slotFor rule columns (queryOf (plansOf (plansIn (now (plans .entry))) asked) (moment .0) subscriber)
+        (columnsOf (now (ids .entry)) (now (numbers .entry)) (now (levels .entry)) (now (lasts .entry))) ⌝ }
 {
     if let Place::At(own) = search::find(ids, subscriber) {
         return Slot::At {
             place: own,
+            number: numbers[own] as u32,
             bucket: bucket_at(levels, lasts, own),
         };
     }
-    let Place::At(free) = lowest_free(plan, ids, levels, lasts, moment) else {
+    let Place::At(free) = lowest_free(plans, asked, ids, numbers, levels, lasts, moment) else {
         return Slot::None;
     };
     Slot::At {
         place: free,
-        bucket: rule_token_bucket::fresh(plan, moment),
+        number: asked,
+        bucket: rule_token_bucket::fresh(plans::plan_at(plans, asked), moment),
     }
 }

@@ -2,10 +2,13 @@
 -- Assumes nothing.
 use borrow.Author.Needs.{needs}
 use mathlib.Core.Path.{_≡_, refl, sym, ap, _∙_}
-use lib.ListN.{length}
+use Prim.Native.Nat.{ℕ}
 use denote.Ref.{now}
 use Rattle.ticks.specs.declared.plan.Plan.{Plan}
-use Rattle.ticks.specs.Grains.{InForce}
+use Rattle.plans.specs.Lent.{plansIn}
+use Rattle.plans.specs.Plans.{Plans, plansOf, Lending}
+use Rattle.plans.specs.Standing.{under}
+use Rattle.plans.proofs.Standing.{under-kept, under-spent}
 use Rattle.rule_gcra.specs.declared.Judgement.{Judgement}
 use Rattle.rule_gcra.specs.Gcra.{judgementOf}
 use Rattle.rule_gcra.proofs.Laws.{judgement-keep, judgement-spend}
@@ -15,44 +18,49 @@ use Rattle.table.specs.Checks.{checkNumber, requestCheck}
 use Rattle.table.specs.Calls.{slotFor, toll}
 use Rattle.table.proofs.Cases.{slot-reads}
 use Rattle.table.specs.Passed.{Asked}
-use Rattle.table.proofs.Checks.{asked-in-force}
-use Rattle.table.proofs.Judging.{request-says, request-asked, asked-equal, judges-refused, judges-keep, judges-write, judges-full}
+use Rattle.table.proofs.Judging.{request-says, request-asked, judges-refused, judges-keep, judges-write, judges-full}
 use Rattle.table_gcra.specs.declared.slot.Slot.{Slot}
-use Rattle.table_gcra.specs.Table.{Table, tableOf, columns, rule, slotOf, rulingOf}
+use Rattle.table_gcra.specs.Table.{records, Table, tableOf, columns, rule, slotOf, rulingOf, Even}
+use Rattle.table_gcra.proofs.Columns.{even, counted}
 use Rattle.table_gcra.proofs.ruling.judge.Statement.{statement}
 use Rattle.table_gcra.proofs.ruling.judge.Tie as tie
 
 -- what was asked, of which table, and what the checks said of it
-abbrev asks : tie.After-request → Request Plan
+abbrev asks : tie.After-request → Request Plans
 asks c =
-    let S = c .before .before .before .before .before .args in
-    requestOf (S .plan) (S .moment .0) (S .subscriber) (S .cost)
+    let S = c .before .before .before .before .before .before .before .before .before .args in
+    requestOf (plansOf (plansIn (now (S .plans))) (S .plan)) (S .moment .0) (S .subscriber) (S .cost)
 
 abbrev over : tie.After-request → Table
 over c =
-    let S = c .before .before .before .before .before .args in
-    tableOf (now (S .ids)) (now (S .tats)) (S .newest .0)
+    let S = c .before .before .before .before .before .before .before .before .before .args in
+    tableOf (now (S .ids)) (now (S .numbers)) (now (S .tats)) (S .newest .0)
+
+abbrev plan : tie.After-request → ℕ
+plan c = asks c .query .setting .number
 
 says : (c : tie.After-request) → checkNumber (c .request .result) ≡ requestCheck (toll rule columns (asks c) (over c))
-unfolding columns
-says c = request-says rule columns (over c) (asks c) (c .request .ensures) (c .before .is-ok .ensures) (c .before .before .common .ensures)
+unfolding records
+says c =
+    request-says rule columns (over c) (asks c) (c .request .ensures) (c .before .before .is-ok .ensures)
+    (counted (over c) (c .before .before .before .before .common .ensures) (c .before .before .before .common2 .ensures))
+    (ap (λ (p : Plan). p .burst) (c .before .plan-at .ensures))
 
 shown : (c : tie.After-request) → c .request .result ≡ Passed → Asked (toll rule columns (asks c) (over c) .gate)
 shown c passed = request-asked (toll rule columns (asks c) (over c)) (says c) passed
 
-force : (c : tie.After-request) → c .request .result ≡ Passed → InForce (asks c .query .setting) (asks c .query .moment)
-force c passed = asked-in-force _ _ _ _ _ (shown c passed)
+lending : (c : tie.After-request) → c .request .result ≡ Passed → Lending (asks c .query .setting) (asks c .query .moment)
+lending c passed = let a = shown c passed in record { plans = a .plan; moment = a .moment }
 
-equal : (c : tie.After-request) → c .request .result ≡ Passed → length (over c .ids) ≡ length (over c .tats)
-unfolding columns
-equal c passed = asked-equal _ _ _ refl (shown c passed)
+even-there : (c : tie.After-request) → c .request .result ≡ Passed → Even (over c .table .ids) (over c .numbers) (over c .table .tats)
+even-there c passed = even (over c) _ refl (shown c passed)
 
 -- the slot that it is judged in
 slot-is :
     (c : tie.After-slot-for) {s : Slot} → c .slot-for .result ≡ s →
     let checked = c .before .before .before in
     slotFor rule columns (asks checked .query) (over checked) ≡ slotOf s
-unfolding columns
+unfolding records
 slot-is c e =
     let checked = c .before .before .before in
     slot-reads rule columns (over checked) (asks checked .query) _ refl refl refl
@@ -66,7 +74,7 @@ returns c = judges-refused rule columns _ _ (says (c .before .before .before)) (
 slot-for-requires : tie.Need-slot-for-requires
 slot-for-requires c κs =
     let checked = c .before .before in
-    (equal checked (c .enum-told .given .1), force checked (c .enum-told .given .1))
+    (even-there checked (c .enum-told .given .1), lending checked (c .enum-told .given .1))
 
 returns-2 : tie.Need-returns-2
 unfolding rulingOf slotOf
@@ -79,7 +87,7 @@ returns-2 c =
 judge-requires : tie.Need-judge-requires
 judge-requires c κs =
     let passed = c .before .before .before .before in
-    force (passed .before .before) (passed .enum-told .given .1)
+    lending (passed .before .before) (passed .enum-told .given .1)
 
 returns-3 : tie.Need-returns-3
 unfolding rulingOf slotOf
@@ -90,7 +98,7 @@ returns-3 c =
     let checked = passed .before .before in
     judges-keep rule columns (over checked) (asks checked) (says checked) (passed .enum-told .given .1)
     (slot-is searched (placed .place .given .1)) (c .before .before .before .judge .ensures)
-    (ap (λ (j : Judgement). judgementOf j) (c .before .outcome .given .1) ∙ judgement-keep _)
+    (ap (λ (j : Judgement). under (plan checked) (judgementOf j)) (c .before .outcome .given .1) ∙ ap (under (plan checked)) (judgement-keep _) ∙ under-kept (plan checked) _)
 
 returns-4 : tie.Need-returns-4
 unfolding rulingOf slotOf
@@ -101,12 +109,14 @@ returns-4 c =
     let checked = passed .before .before in
     judges-write rule columns (over checked) (asks checked) (says checked) (passed .enum-told .given .1)
     (slot-is searched (placed .place .given .1)) (c .before .before .before .judge .ensures)
-    (ap (λ (j : Judgement). judgementOf j) (c .before .outcome2 .given .1) ∙ judgement-spend _ _)
+    (ap (λ (j : Judgement). under (plan checked) (judgementOf j)) (c .before .outcome2 .given .1) ∙ ap (under (plan checked)) (judgement-spend _ _) ∙ under-spent (plan checked) _ _)
 
 pub judge-spec : {M : Type 1} → statement M
 judge-spec =
     tie.close
     (tie.spec
+    (λ c κs. search needs)
+    (λ c κs. search needs)
     (λ c κs. search needs)
     (λ c κs. search needs)
     (λ c κs. search needs)

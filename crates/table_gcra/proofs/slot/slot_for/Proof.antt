@@ -2,10 +2,13 @@
 -- Assumes nothing.
 use borrow.Author.Needs.{needs}
 use mathlib.Core.Path.{_≡_, sym, ap, _∙_}
+use Prim.Native.Nat.{_<_}
 use native.Mathlib.Omega.{arith}
+use lib.ListN.{length}
 use denote.Ref.{now}
-use Rattle.ticks.specs.declared.plan.Plan.{Plan}
 use Rattle.ticks.specs.declared.units.Ticks.{Ticks}
+use Rattle.plans.specs.Lent.{plansIn}
+use Rattle.plans.specs.Plans.{Plans, plansOf, plannedOf}
 use Rattle.table.specs.declared.search.Place.{Place}
 use Rattle.table.specs.Request.{Query, queryOf}
 use Rattle.table.specs.Slots.{own}
@@ -13,41 +16,54 @@ use Rattle.table.specs.Calls.{at}
 use Rattle.table.proofs.Cases.{slot-own, slot-new, slot-none}
 use Rattle.table.proofs.Judging.{own-found}
 use Rattle.table.proofs.Seek.{found-within}
-use Rattle.table_gcra.specs.Table.{Table, columnsOf, columns, rule, slotOf}
-use Rattle.table_gcra.proofs.Lengths.{all-slots}
+use Rattle.table_gcra.specs.Table.{records, Table, columnsOf, columns, rule, slotOf}
+use Rattle.table_gcra.proofs.Columns.{all-slots}
 use Rattle.table_gcra.proofs.slot.slot_for.Statement.{statement}
 use Rattle.table_gcra.proofs.slot.slot_for.Tie as tie
 
 -- what was asked, of which table, and where the own slot is
-abbrev asks : tie.After-find → Query Plan
+abbrev asks : tie.After-find → Query Plans
 asks c =
-    let S = c .before .before .before .args in
-    queryOf (S .plan) (S .moment .0) (S .subscriber)
+    let S = c .before .before .before .before .before .args in
+    queryOf (plansOf (plansIn (now (S .plans))) (S .asked)) (S .moment .0) (S .subscriber)
 
 abbrev over : tie.After-find → Table
 over c =
-    let S = c .before .before .before .args in
-    columnsOf (now (S .ids)) (now (S .tats))
+    let S = c .before .before .before .before .before .args in
+    columnsOf (now (S .ids)) (now (S .numbers)) (now (S .tats))
 
 own-is : (c : tie.After-find) {p : Place} → c .find .result ≡ p → own columns (asks c .subscriber) (over c) ≡ p
-unfolding columns
-own-is c e = own-found columns (over c) (all-slots (over c) (c .before .before .before .pre .0)) _ (c .find .ensures) e
+unfolding records
+own-is c e = own-found columns (over c) (all-slots (over c) (c .before .before .before .before .before .pre .0)) _ (c .find .ensures) e
 
-mul-t9 : tie.Need-mul-t9
-mul-t9 c =
-    let searched = c .before .before .before in
-    omega (arith, searched .before .before .before .pre .0, found-within _ (searched .find .ensures) (c .before .own .given .1))
+-- the place found is a slot
+found : (c : tie.After-own) → c .own .given .0 .0 < length (now (c .before .before .before .before .before .before .before .args .ids))
+found c = found-within _ (c .before .before .find .ensures) (c .own .given .1)
 
-shared-slice-read-t11 : tie.Need-shared-slice-read-t11
-shared-slice-read-t11 c =
-    let searched = c .before .before .before .before in
-    omega (arith, searched .before .before .before .pre .0, found-within _ (searched .find .ensures) (c .before .before .own .given .1))
+shared-slice-read-t12 : tie.Need-shared-slice-read-t12
+shared-slice-read-t12 c =
+    let own = c .before .before in
+    omega (arith, own .before .before .before .before .before .before .before .pre .0 .to-numbers, found own)
+
+cast-t13 : tie.Need-cast-t13
+cast-t13 c = omega (arith, c .shared-slice-known5 .given (c .before .before .own .given .0 .0) .fits)
+
+mul-t14 : tie.Need-mul-t14
+mul-t14 c =
+    let own = c .before .before in
+    omega (arith, own .before .before .before .before .before .before .before .pre .0 .to-tats, found own)
+
+shared-slice-read-t16 : tie.Need-shared-slice-read-t16
+shared-slice-read-t16 c =
+    let own = c .before .before .before in
+    omega (arith, own .before .before .before .before .before .before .before .pre .0 .to-tats, found own)
 
 returns : tie.Need-returns
-unfolding slotOf columns
+unfolding slotOf records
 returns c =
-    let searched = c .before .before .before .before in
-    sym (slot-own rule columns (over searched) (asks searched) (own-is searched (c .before .before .own .given .1)))
+    let own = c .before .before .before in
+    let searched = own .before .before in
+    sym (slot-own rule columns (over searched) (asks searched) (own-is searched (own .own .given .1)))
 
 returns-2 : tie.Need-returns-2
 unfolding slotOf
@@ -63,7 +79,7 @@ returns-3 c =
     let free = c .before .before in
     let unknown = free .before .before .before in
     let searched = unknown .before .before in
-    ap (λ (tat : Ticks). at (free .free .given .0 .0) tat) (c .fresh .ensures _ _)
+    ap (λ (tat : Ticks). at (free .free .given .0 .0) (plannedOf (asks searched .setting .number) tat)) (c .fresh .ensures _ _)
     ∙ sym (slot-new rule columns (over searched) (asks searched) (own-is searched (unknown .enum-told .given .1))
     (sym (free .before .before .lowest-free .ensures) ∙ free .free .given .1))
 
@@ -73,8 +89,10 @@ slot-for-spec =
     (tie.spec
     (λ c κs. search needs)
     (λ c. search needs)
-    mul-t9
-    shared-slice-read-t11
+    shared-slice-read-t12
+    cast-t13
+    mul-t14
+    shared-slice-read-t16
     returns
     (λ c. search needs)
     (λ c κs. search needs)

@@ -4,21 +4,24 @@ use borrow.Author.Tests.{not-true}
 use Prim.Native.Nat.{_-_, _≤_}
 use native.Mathlib.Omega.{arith}
 use lib.ListN.{length}
-use Rattle.table.specs.Slots.{vacant, NoneFrom}
+use Rattle.table.specs.Slots.{carries, NoneFrom}
 use Rattle.table.proofs.Seek.{from-block}
-use Rattle.table_token_bucket.specs.Table.{columnsOf, columns, rule}
+use Rattle.table_token_bucket.specs.Table.{NoneFree}
 use Rattle.table_token_bucket.proofs.slot.skip.Statement.{statement}
 use Rattle.table_token_bucket.proofs.slot.skip.Tie as tie
 
 abbrev Inv-loop : tie.InvT-loop
 Inv-loop plan ids levels lasts moment from at₀ at =
-    ((from ≤ at) × (at ≤ length ids)) × NoneFrom (vacant rule columns plan (moment .0) (columnsOf ids levels lasts)) from at
+    ((from ≤ at) × (at ≤ length ids)) × (NoneFrom (carries ids 0) from at × NoneFree plan (moment .0) levels lasts from at)
 
 abbrev μ-loop : tie.MeasureT-loop
 μ-loop plan ids levels lasts moment from at₀ at = length ids - at
 
 loop-holds : tie.Need-loop-holds Inv-loop μ-loop
-loop-holds c = ((omega arith, c .before .before .before .pre .1 .0), λ j above below. absurd (omega arith))
+loop-holds c = (
+  (omega arith, c .before .before .before .pre .1 .0),
+  (λ j above below. absurd (omega arith), λ q w l j above below. absurd (omega arith)),
+)
 
 sub-loop : tie.Need-sub-loop Inv-loop μ-loop
 sub-loop c = omega arith
@@ -40,8 +43,13 @@ loop-less c = omega arith
 loop-again : tie.Need-loop-again Inv-loop μ-loop
 loop-again c =
     let at-loop = c .before .before .before .loop in
-    let block = c .before .may-be-vacant .ensures (not-true _ (c .if1 .taken)) in
-    ((omega arith, omega arith), from-block _ _ (at-loop .at) _ (at-loop .inv .1) block)
+    let block = c .before .may-be-vacant .ensures (not-true _ (c .if1 .taken)) in (
+      (omega arith, omega arith),
+      (
+        from-block _ _ (at-loop .at) _ (at-loop .inv .1 .0) (block .0),
+        λ q w l. from-block _ _ (at-loop .at) _ (at-loop .inv .1 .1 q w l) (block .1 q w l),
+      ),
+    )
 
 returns : tie.Need-returns Inv-loop μ-loop
 returns c = c .before .before .before .loop .inv
