@@ -22,7 +22,7 @@ use Rattle.table.specs.Calls.{acquire, peek}
 use Rattle.table.specs.Passed.{bad-plan, bad-table, late-moment, early-moment, no-subscriber}
 use Rattle.table.proofs.Outcomes.{waits, admits, admits-new}
 use Rattle.law_calls.specs.Grounds.{Ground, throttled, admitted, admitted-new}
-use Rattle.law_calls.specs.PeekGrounds.{PeekGround, stopped, corrupt-record, known, unknown}
+use Rattle.law_calls.specs.PeekGrounds.{PeekGround, stopped, corrupt-record, other-plan, known, unknown}
 use Rattle.law_calls.proofs.Numbers.{grounds}
 use Rattle.law_calls.proofs.Peek.{peek-own, peek-unknown}
 use Rattle.law_calls.proofs.PeekNumbers.{peek-grounds}
@@ -79,6 +79,7 @@ module _ {C P R : Type 0} {A : Account P R} (L : Balanced A) (K : Columns C R) (
   never-8 (stopped (early-moment a b m e)) = refl
   never-8 (stopped (no-subscriber a b m e s)) = refl
   never-8 (corrupt-record a i o s) = refl
+  never-8 (other-plan a i o s) = refl
   never-8 (known a i o s) = refl
   never-8 (unknown a u) = refl
 

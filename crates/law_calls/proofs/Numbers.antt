@@ -9,7 +9,7 @@ use borrow.Author.Tests.{ltb-false}
 use Rattle.ticks.specs.Grains.{onClock}
 use Rattle.rate.specs.Decision.{Verdict}
 use Rattle.rate.specs.Account.{Account, Judged}
-use Rattle.rate.specs.Balanced.{Balanced, Fault, fine, corrupt}
+use Rattle.rate.specs.Balanced.{Balanced, Fault, fine, corrupt, elsewhere}
 use Rattle.rate.proofs.Answers.{bare-number, admitted-number}
 use Rattle.rate.proofs.ClockEnd.{throttled-8, throttled-13}
 use Rattle.rate.proofs.Cases.{judge-faulty, judge-admitted, judge-throttled}
@@ -20,7 +20,7 @@ use Rattle.table.specs.Slots.{Columns}
 use Rattle.table.specs.Calls.{acquire, toll}
 use Rattle.table.specs.Passed.{Payable}
 use Rattle.table.specs.Places.{Own}
-use Rattle.law_calls.specs.Grounds.{Ground, stopped, zero-cost, cost-above-burst, corrupt-record, throttled, not-on-clock, table-full, admitted, admitted-new}
+use Rattle.law_calls.specs.Grounds.{Ground, stopped, zero-cost, cost-above-burst, corrupt-record, other-plan, throttled, not-on-clock, table-full, admitted, admitted-new}
 use Rattle.law_calls.specs.Causes as rule
 use Rattle.law_calls.specs.Causes.{Cause, verdictOn}
 use Rattle.law_calls.proofs.Causes.{causes, caused}
@@ -31,8 +31,9 @@ module _ {C P R : Type 0} (A : Account P R) (K : Columns C R) (r : Request P) (c
     numbered : {j : Judged R} {n : ℕ} → j .verdict .number ≡ n → {k : Judged R} → k ≡ j → k .verdict .number ≡ n
     numbered n e = ap (λ (j : Judged R). j .verdict .number) e ∙ n
 
-    gets-7 : faultAt A r held ≡ 7 → verdictOn (ruleOf A) r held .number ≡ 7
-    gets-7 s = numbered (bare-number _ ∙ s) (judge-faulty A (r .query .setting) (r .query .moment) held (r .cost) (ap (λ (n : ℕ). eqb n 0) s))
+    gets : (n : ℕ) → eqb n 0 ≡ false → faultAt A r held ≡ n → verdictOn (ruleOf A) r held .number ≡ n
+    gets n some s =
+        numbered (bare-number _ ∙ s) (judge-faulty A (r .query .setting) (r .query .moment) held (r .cost) (ap (λ (n : ℕ). eqb n 0) s ∙ some))
 
     gets-8 :
         faultAt A r held ≡ 0 → admitsAt A r held ≡ false → onClock (r .query .moment + waitAt A r held) ≡ true →
@@ -64,7 +65,8 @@ module _ {C P R : Type 0} (A : Account P R) (K : Columns C R) (r : Request P) (c
     cause (stopped s) = rule.stopped s
     cause (zero-cost a z) = rule.zero-cost a z
     cause (cost-above-burst a z b) = rule.cost-above-most a z b
-    cause (corrupt-record p i o s) = rule.on-own p i o (gets-7 (K .row c i) s)
+    cause (corrupt-record p i o s) = rule.on-own p i o (gets (K .row c i) 7 refl s)
+    cause (other-plan p i o s) = rule.on-own p i o (gets (K .row c i) 12 refl s)
     cause (throttled p i o s a e) = rule.on-own p i o (gets-8 (K .row c i) s a e)
     cause (not-on-clock p i o s a e) = rule.on-own p i o (gets-13 (K .row c i) s a e)
     cause (table-full p u f) = rule.table-full p u f
@@ -84,7 +86,8 @@ module _ {C P R : Type 0} (A : Account P R) (K : Columns C R) (r : Request P) (c
         by :
             Fault (faultAt A r (K .row c i)) → (a : Bool) → admitsAt A r (K .row c i) ≡ a → (t : Bool) →
             onClock (r .query .moment + waitAt A r (K .row c i)) ≡ t → Ground A K r c n
-        by (corrupt s) a ea t et = got (corrupt-record p i o s) (gets-7 (K .row c i) s)
+        by (corrupt s) a ea t et = got (corrupt-record p i o s) (gets (K .row c i) 7 refl s)
+        by (elsewhere s) a ea t et = got (other-plan p i o s) (gets (K .row c i) 12 refl s)
         by (fine s) true ea t et = got (admitted p i o s ea) (gets-0 (K .row c i) s ea)
         by (fine s) false ea true et = got (throttled p i o s ea et) (gets-8 (K .row c i) s ea et)
         by (fine s) false ea false et = got (not-on-clock p i o s ea et) (gets-13 (K .row c i) s ea et)

@@ -1,12 +1,12 @@
 -- Exactly when a peek gets each of its numbers, for any account; and a clear, over any columns.
 -- Assumes nothing.
-use mathlib.Core.Path.{_≡_, sym, ap, subst, _∙_}
+use mathlib.Core.Path.{_≡_, refl, sym, ap, subst, _∙_}
 use mathlib.Core.Bool.{true, false}
 use Prim.Native.Nat.{ℕ}
 use lib.Dec.{eqb}
 use Rattle.rate.specs.Decision.{Verdict, bare}
 use Rattle.rate.specs.Account.{Account, report}
-use Rattle.rate.specs.Balanced.{Balanced, Fault, fine, corrupt}
+use Rattle.rate.specs.Balanced.{Balanced, Fault, fine, corrupt, elsewhere}
 use Rattle.rate.proofs.Answers.{answered-number, bare-number, reported-number}
 use Rattle.rate.proofs.Cases.{report-faulty, report-sound}
 use Rattle.table.specs.Request.{Query}
@@ -17,7 +17,7 @@ use Rattle.table.specs.Calls.{Step, peek, clear, gate}
 use Rattle.table.specs.Passed.{Asked}
 use Rattle.table.specs.Places.{Own}
 use Rattle.table.proofs.Cases.{clear-done, clear-unfit}
-use Rattle.law_calls.specs.PeekGrounds.{PeekGround, stopped, corrupt-record, known, unknown}
+use Rattle.law_calls.specs.PeekGrounds.{PeekGround, stopped, corrupt-record, other-plan, known, unknown}
 use Rattle.law_calls.specs.PeekCauses as rule
 use Rattle.law_calls.specs.PeekCauses.{PeekCause}
 use Rattle.law_calls.proofs.Cleared.{cleared-table}
@@ -25,10 +25,10 @@ use Rattle.law_calls.proofs.PeekCauses.{peek-causes, peek-caused}
 
 -- why a look gets its number
 module _ {C P R : Type 0} (A : Account P R) (K : Columns C R) (q : Query P) (c : C) where
-  gets-7 :
-      (h : R) → A .fault (q .setting) (q .moment) h ≡ 7 → report A (q .setting) (q .moment) h .number ≡ 7
-  gets-7 h s =
-      ap (λ (v : Verdict). v .number) (report-faulty A (q .setting) (q .moment) h (ap (λ (n : ℕ). eqb n 0) s)) ∙ bare-number _ ∙ s
+  gets :
+      (h : R) (n : ℕ) → eqb n 0 ≡ false → A .fault (q .setting) (q .moment) h ≡ n → report A (q .setting) (q .moment) h .number ≡ n
+  gets h n some s =
+      ap (λ (v : Verdict). v .number) (report-faulty A (q .setting) (q .moment) h (ap (λ (n : ℕ). eqb n 0) s ∙ some)) ∙ bare-number _ ∙ s
 
   gets-0 : (h : R) → A .fault (q .setting) (q .moment) h ≡ 0 → report A (q .setting) (q .moment) h .number ≡ 0
   gets-0 h s = ap (λ (v : Verdict). v .number) (report-sound A (q .setting) (q .moment) h s) ∙ reported-number _ _ _
@@ -40,7 +40,8 @@ module _ {C P R : Type 0} (A : Account P R) (K : Columns C R) (q : Query P) (c :
 
     cause : {n : ℕ} → PeekGround A K q c n → PeekCause (ruleOf A) K q c n
     cause (stopped s) = rule.stopped s
-    cause (corrupt-record a i o s) = rule.on-own a i o (gets-7 (K .row c i) s)
+    cause (corrupt-record a i o s) = rule.on-own a i o (gets (K .row c i) 7 refl s)
+    cause (other-plan a i o s) = rule.on-own a i o (gets (K .row c i) 12 refl s)
     cause (known a i o s) = rule.on-own a i o (gets-0 (K .row c i) s)
     cause (unknown a u) = rule.on-fresh a u (fresh-gets-0 a)
 
@@ -49,9 +50,13 @@ module _ {C P R : Type 0} (A : Account P R) (K : Columns C R) (q : Query P) (c :
         PeekGround A K q c n
     on-record {n} a i o e = by (L .faults (q .setting) (q .moment) (K .row c i))
       where
+        got : {k : ℕ} → PeekGround A K q c k → report A (q .setting) (q .moment) (K .row c i) .number ≡ k → PeekGround A K q c n
+        got g is = subst (λ (k : ℕ). PeekGround A K q c k) (sym is ∙ e) g
+
         by : Fault (A .fault (q .setting) (q .moment) (K .row c i)) → PeekGround A K q c n
-        by (corrupt s) = subst (λ (k : ℕ). PeekGround A K q c k) (sym (gets-7 (K .row c i) s) ∙ e) (corrupt-record a i o s)
-        by (fine s) = subst (λ (k : ℕ). PeekGround A K q c k) (sym (gets-0 (K .row c i) s) ∙ e) (known a i o s)
+        by (corrupt s) = got (corrupt-record a i o s) (gets (K .row c i) 7 refl s)
+        by (elsewhere s) = got (other-plan a i o s) (gets (K .row c i) 12 refl s)
+        by (fine s) = got (known a i o s) (gets-0 (K .row c i) s)
 
     ground : {n : ℕ} → PeekCause (ruleOf A) K q c n → PeekGround A K q c n
     ground (rule.stopped s) = stopped s

@@ -19,6 +19,8 @@ module _ {C P R : Type 0} (A : Account P R) (K : Columns C R) (r : Request P) (c
     cost-above-burst :
         Asked (gate (ruleOf A) K (r .query) c) → eqb (r .cost) 0 ≡ false → ltb (A .plan (r .query .setting) .burst) (r .cost) ≡ true → Ground 6
     corrupt-record : Payable (toll (ruleOf A) K r c) → (i : ℕ) → Own K (r .query) c i → faultAt A r (K .row c i) ≡ 7 → Ground 7
+    -- document 02, Item 3: just after it, what is still owed under another plan
+    other-plan : Payable (toll (ruleOf A) K r c) → (i : ℕ) → Own K (r .query) c i → faultAt A r (K .row c i) ≡ 12 → Ground 12
     throttled :
         Payable (toll (ruleOf A) K r c) → (i : ℕ) → Own K (r .query) c i → faultAt A r (K .row c i) ≡ 0 →
         admitsAt A r (K .row c i) ≡ false → onClock (r .query .moment + waitAt A r (K .row c i)) ≡ true → Ground 8

@@ -14,6 +14,8 @@ module _ {C P R : Type 0} (A : Account P R) (K : Columns C R) (q : Query P) (c :
     stopped : {n : ℕ} → Stopped (gate (ruleOf A) K q c) n → PeekGround n
     corrupt-record :
         Asked (gate (ruleOf A) K q c) → (i : ℕ) → Own K q c i → A .fault (q .setting) (q .moment) (K .row c i) ≡ 7 → PeekGround 7
+    other-plan :
+        Asked (gate (ruleOf A) K q c) → (i : ℕ) → Own K q c i → A .fault (q .setting) (q .moment) (K .row c i) ≡ 12 → PeekGround 12
     known :
         Asked (gate (ruleOf A) K q c) → (i : ℕ) → Own K q c i → A .fault (q .setting) (q .moment) (K .row c i) ≡ 0 → PeekGround 0
     unknown : Asked (gate (ruleOf A) K q c) → Unknown K q c → PeekGround 0

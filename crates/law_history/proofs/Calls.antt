@@ -1,7 +1,7 @@
--- The laws of the calls (law_calls, proofs/Laws) hold of both engines.
+-- The laws of the calls (law_calls, proofs/Laws) hold of both engines under any plans lent.
 -- Assumes nothing.
-use Rattle.rate.specs.Account.{alone}
-use Rattle.rate.proofs.Alone.{alone-balanced}
+use Rattle.plans.specs.Plans.{planned}
+use Rattle.plans.proofs.Planned.{planned-balanced}
 use Rattle.rule_gcra.specs.Gcra.{gcra}
 use Rattle.rule_gcra.proofs.Laws.{gcra-lawful}
 use Rattle.rule_token_bucket.specs.TokenBucket.{tokenBucket}
@@ -13,8 +13,8 @@ use Rattle.table_token_bucket.proofs.Columns.{token-bucket-stored}
 use Rattle.law_calls.specs.Laws.{CallLaws}
 use Rattle.law_calls.proofs.Laws.{call-laws}
 
-pub gcra-laws : CallLaws (alone gcra) gcra-table.columns
-gcra-laws = call-laws (alone-balanced gcra-lawful) gcra-stored
+pub gcra-laws : CallLaws (planned gcra) gcra-table.columns
+gcra-laws = call-laws (planned-balanced gcra-lawful) gcra-stored
 
-pub token-bucket-laws : CallLaws (alone tokenBucket) token-bucket-table.columns
-token-bucket-laws = call-laws (alone-balanced token-bucket-lawful) token-bucket-stored
+pub token-bucket-laws : CallLaws (planned tokenBucket) token-bucket-table.columns
+token-bucket-laws = call-laws (planned-balanced token-bucket-lawful) token-bucket-stored

@@ -6,8 +6,8 @@ use mathlib.Core.List.{List, []}
 use Prim.Native.Nat.{ℕ}
 use Rattle.ticks.specs.declared.plan.Plan.{Plan}
 use Rattle.rate.specs.Engine.{Engine}
-use Rattle.rate.specs.Account.{alone}
 use Rattle.rate.specs.Lawful.{Lawful}
+use Rattle.plans.specs.Plans.{Planned, planned}
 use Rattle.rule_gcra.proofs.Laws.{gcra-lawful}
 use Rattle.rule_token_bucket.proofs.Laws.{token-bucket-lawful}
 use Rattle.table.specs.Checks.{slotsOk}
@@ -26,20 +26,20 @@ use Rattle.law_history.specs.Run.{Call, engine, history, answers}
 use Rattle.law_history.proofs.Invariant.{cleared}
 use Rattle.law_history.proofs.Simulation.{simulation}
 
--- any lawful engine over columns that a clear has left answers as the history does
+-- any lawful engine, under any plans, over columns that a clear has left answers as the history does
 pub engine-is-history :
-    {C R : Type 0} {E : Engine R} → Lawful E → (K : Columns C R) → Stored K → (p : Plan) (slots : ℕ) (c : C) →
+    {C R : Type 0} {E : Engine R} → Lawful E → (K : Columns C (Planned R)) → Stored K → (ps : List Plan) (slots : ℕ) (c : C) →
     K .slots c ≡ slots → clear K c .answer .number ≡ 0 → (run : List Call) →
-    answers (engine (ruleOf (alone E)) K) p (clear K c .after) run ≡ answers (history slots) p [] run
-engine-is-history {E = E} L K S p slots c s e run =
+    answers (engine (ruleOf (planned E)) K) ps (clear K c .after) run ≡ answers (history slots) ps [] run
+engine-is-history L K S ps slots c s e run =
     let table = subst (λ (k : ℕ). slotsOk k ≡ true) s (cleared-table K c e) in
-    rw (cleared-after K c e) (simulation L K S p slots run (K .zeros c) [] (cleared L K S p slots (newest []) c s table))
+    rw (cleared-after K c e) (simulation L K S slots ps run (K .zeros c) [] (cleared L K S ps slots (newest []) c s table))
 
 pub demand-3 : Demand3
-demand-3 p slots t b s run =
+demand-3 ps slots t b s run =
     record {
       gcra-is-history =
-          engine-is-history gcra-lawful gcra-table.columns gcra-stored p slots t (s .gcra-slots) (s .gcra-cleared) run;
+          engine-is-history gcra-lawful gcra-table.columns gcra-stored ps slots t (s .gcra-slots) (s .gcra-cleared) run;
       token-bucket-is-history =
-          engine-is-history token-bucket-lawful token-bucket-table.columns token-bucket-stored p slots b (s .token-bucket-slots) (s .token-bucket-cleared) run;
+          engine-is-history token-bucket-lawful token-bucket-table.columns token-bucket-stored ps slots b (s .token-bucket-slots) (s .token-bucket-cleared) run;
     }

@@ -1,13 +1,14 @@
--- How a table and a history belong together: both have the same newest moment; and at some moment each occupied slot is sound
--- and owes what the history says, no subscriber has two slots, and whoever has none owes nothing. It stays so as time passes,
--- it holds of a cleared table and the empty history, and an admission keeps it.
+-- How a table and a history belong together: both have the same newest moment; and at some moment each occupied slot holds a
+-- record of the plan of its subscriber's run, sound by it, that owes what the history says; no subscriber has two slots, and whoever
+-- has none owes nothing. It stays so as time passes, it holds of a cleared table and the empty history, and an admission keeps it.
 -- Assumes nothing.
-use mathlib.Core.Path.{_≡_, refl, sym, ap, subst, _∙_}
+use mathlib.Core.Path.{_≡_, refl, sym, ap, ap₂, subst, _∙_}
 use mathlib.Core.Bool.{Bool, true, false, false≢true}
 use mathlib.Core.List.{List, [], _∷_, _++_}
 use Prim.Native.Nat.{ℕ, _+_, _-_, _≤_, _<_}
 use native.Mathlib.Decide.{ℕ-discrete}
 use native.Mathlib.Omega.{arith}
+use lib.Dec.{eqb}
 use lib.ListN.{length, getD, set}
 use lib.Seq.{getD-set-same, getD-set-other, set-getD}
 use borrow.Author.Tests.{eqb-true, eqb-false, not-true, not-false}
@@ -15,14 +16,16 @@ use Rattle.ticks.specs.declared.plan.Plan.{Plan}
 use Rattle.ticks.specs.Grains.{ticksIn, price}
 use Rattle.rate.specs.Engine.{Engine}
 use Rattle.rate.specs.Lawful.{Lawful}
+use Rattle.plans.specs.Plans.{Planned, plannedOf, known, planAt}
 use Rattle.table.specs.Checks.{slotsOk}
 use Rattle.table.specs.Slots.{Columns}
 use Rattle.table.specs.Stored.{Stored}
 use Rattle.table.proofs.Checks.{slots-least}
 use Rattle.law_calls.proofs.Cleared.{zeros-empty}
-use Rattle.law_history.specs.History.{Entry, newest, member, owed}
+use Rattle.law_history.specs.History.{Entry, newest, member, planNumber, owed}
 use Rattle.law_history.proofs.Columns.{somebody, set-apart, gone-elsewhere, gone-other, one-place, zeros-apart}
 use Rattle.law_history.proofs.Counting.{Apart, member-place, place-member}
+use Rattle.law_history.proofs.Latest.{number-own, number-others}
 use Rattle.law_history.proofs.Owing.{owed-drains, owed-spends, owed-others, owed-none, newest-none, newest-end}
 
 pub nobody-is-0 : (x : ℕ) → somebody x ≡ false → x ≡ 0
@@ -37,37 +40,51 @@ somebody-not-0 x e = eqb-false x 0 (not-true _ e)
 abbrev pub idAt : {C R : Type 0} → Columns C R → C → ℕ → ℕ
 idAt K c i = getD (K .ids c) i 0
 
+-- a record and its subscriber's run: of the same plan, which is lent; sound by it; and owing the same
+pub record Matched {R : Type 0} (E : Engine R) (ps : List Plan) (at : ℕ) (x : Planned R) (who : ℕ) (h : List Entry) : Type 0 where
+  pub lent : known ps (x .number) ≡ true
+  pub number : x .number ≡ planNumber who h
+  pub sound : E .sound (planAt ps (x .number)) at (x .held) ≡ true
+  pub agree : E .backlog (planAt ps (x .number)) at (x .held) ≡ owed ps at who h
+
 pub record Related
-    {C R : Type 0} (E : Engine R) (K : Columns C R) (p : Plan) (n at : ℕ) (c : C) (h : List Entry) : Type 0 where
+    {C R : Type 0} (E : Engine R) (K : Columns C (Planned R)) (ps : List Plan) (n at : ℕ) (c : C) (h : List Entry) : Type 0 where
   pub slots : K .slots c ≡ n
   pub table : slotsOk n ≡ true
   pub latest : K .newest c ≡ newest h
   pub apart : Apart somebody (K .ids c)
-  pub sound : (i : ℕ) → i < n → somebody (idAt K c i) ≡ true → E .sound p at (K .row c i) ≡ true
-  pub agree : (i : ℕ) → i < n → somebody (idAt K c i) ≡ true → E .backlog p at (K .row c i) ≡ owed p at (idAt K c i) h
-  pub nobody : owed p at 0 h ≡ 0
-  pub strangers : (who : ℕ) → member who (K .ids c) ≡ false → owed p at who h ≡ 0
+  pub matched : (i : ℕ) → i < n → somebody (idAt K c i) ≡ true → Matched E ps at (K .row c i) (idAt K c i) h
+  pub nobody : owed ps at 0 h ≡ 0
+  pub strangers : (who : ℕ) → member who (K .ids c) ≡ false → owed ps at who h ≡ 0
 
-module _ {C R : Type 0} {E : Engine R} (L : Lawful E) (K : Columns C R) (S : Stored K) (p : Plan) (n : ℕ) where
+module _ {C R : Type 0} {E : Engine R} (L : Lawful E) (K : Columns C (Planned R)) (S : Stored K) (ps : List Plan) (n : ℕ) where
   -- both drain alike
-  pub later : (l k : ℕ) (c : C) (h : List Entry) → l ≤ k → Related E K p n l c h → Related E K p n k c h
+  pub later : (l k : ℕ) (c : C) (h : List Entry) → l ≤ k → Related E K ps n l c h → Related E K ps n k c h
   later l k c h le v =
       record {
         slots = v .slots;
         table = v .table;
         latest = v .latest;
         apart = v .apart;
-        sound = λ i w s. L .stays-sound p l k (K .row c i) le (v .sound i w s);
-        agree = λ i w s.
-            L .drains p l k (K .row c i) le (v .sound i w s)
-            ∙ ap (λ (b : ℕ). b - ticksIn p (k - l)) (v .agree i w s)
-            ∙ sym (owed-drains p l k le (idAt K c i) h);
-        nobody = omega (arith, v .nobody, owed-drains p l k le 0 h);
-        strangers = λ who m. omega (arith, v .strangers who m, owed-drains p l k le who h);
+        matched = λ i w s. drained (K .row c i) (idAt K c i) (v .matched i w s);
+        nobody = omega (arith, v .nobody, owed-drains ps l k le 0 h);
+        strangers = λ who m. omega (arith, v .strangers who m, owed-drains ps l k le who h);
       }
+    where
+      drained : (x : Planned R) (who : ℕ) → Matched E ps l x who h → Matched E ps k x who h
+      drained x who m =
+          record {
+            lent = m .lent;
+            number = m .number;
+            sound = L .stays-sound (planAt ps (x .number)) l k (x .held) le (m .sound);
+            agree =
+                L .drains (planAt ps (x .number)) l k (x .held) le (m .sound)
+                ∙ ap₂ (λ (b j : ℕ). b - ticksIn (planAt ps j) (k - l)) (m .agree) (m .number)
+                ∙ sym (owed-drains ps l k le who h);
+          }
 
   -- a cleared table and the empty history
-  pub cleared : (at : ℕ) (c : C) → K .slots c ≡ n → slotsOk n ≡ true → Related E K p n at (K .zeros c) []
+  pub cleared : (at : ℕ) (c : C) → K .slots c ≡ n → slotsOk n ≡ true → Related E K ps n at (K .zeros c) []
   unfolding somebody
   cleared at c s t =
       let table = subst (λ (k : ℕ). slotsOk k ≡ true) (sym s) t in
@@ -78,13 +95,12 @@ module _ {C R : Type 0} {E : Engine R} (L : Lawful E) (K : Columns C R) (S : Sto
         table = t;
         latest = S .newest-zeros c ∙ sym newest-none;
         apart = subst (λ (l : List ℕ). Apart somebody l) (sym (S .ids-zeros c)) (zeros-apart (length (K .ids c)));
-        sound = λ i w o. absurd (empty i w o);
-        agree = λ i w o. absurd (empty i w o);
-        nobody = owed-none p at 0;
-        strangers = λ who m. owed-none p at who;
+        matched = λ i w o. absurd (empty i w o);
+        nobody = owed-none ps at 0;
+        strangers = λ who m. owed-none ps at who;
       }
 
-  module _ (at : ℕ) (c : C) (h : List Entry) (v : Related E K p n at c h) where
+  module _ (at : ℕ) (c : C) (h : List Entry) (v : Related E K ps n at c h) where
     -- the ids column is as long as the table
     pub ids-length : length (K .ids c) ≡ n
     ids-length = S .ids-length c (omega (arith, slots-least n (v .table), v .slots)) ∙ v .slots
@@ -93,25 +109,26 @@ module _ {C R : Type 0} {E : Engine R} (L : Lawful E) (K : Columns C R) (S : Sto
     pub data Free (who i : ℕ) : Type 0 where
       own : idAt K c i ≡ who → Free who i
       free :
-          member who (K .ids c) ≡ false → (somebody (idAt K c i) ≡ true → E .backlog p at (K .row c i) ≡ 0) → Free who i
+          member who (K .ids c) ≡ false → (somebody (idAt K c i) ≡ true → owed ps at (idAt K c i) h ≡ 0) → Free who i
 
-    module _ (who cost i : ℕ) (held : R) (w : i < n) (f : Free who i) (real : somebody who ≡ true) where
+    module _ (who k cost i : ℕ) (held : R) (w : i < n) (f : Free who i) (real : somebody who ≡ true) where
       abbrev entry : Entry
-      entry = record { subscriber = who; moment = at; cost = cost }
+      entry = record { subscriber = who; moment = at; plan = k; cost = cost }
+
+      abbrev spent : Planned R
+      spent = plannedOf k (E .spend (planAt ps k) at held cost)
 
       abbrev put : C
-      put = K .put c i who at (E .spend p at held cost)
+      put = K .put c i who at spent
 
       in-ids : i < length (K .ids c)
       in-ids = omega (arith, ids-length)
 
       id-same : idAt K put i ≡ who
-      id-same =
-          ap (λ (l : List ℕ). getD l i 0) (S .ids-put c i who at (E .spend p at held cost)) ∙ getD-set-same (K .ids c) i who 0 in-ids
+      id-same = ap (λ (l : List ℕ). getD l i 0) (S .ids-put c i who at spent) ∙ getD-set-same (K .ids c) i who 0 in-ids
 
       id-other : (j : ℕ) → (j ≡ i → ⊥) → idAt K put j ≡ idAt K c j
-      id-other j o =
-          ap (λ (l : List ℕ). getD l j 0) (S .ids-put c i who at (E .spend p at held cost)) ∙ getD-set-other (K .ids c) i j who 0 o
+      id-other j o = ap (λ (l : List ℕ). getD l j 0) (S .ids-put c i who at spent) ∙ getD-set-other (K .ids c) i j who 0 o
 
       apart-set : Free who i → Apart somebody (set (K .ids c) i who)
       apart-set (own e) =
@@ -125,67 +142,76 @@ module _ {C R : Type 0} {E : Engine R} (L : Lawful E) (K : Columns C R) (S : Sto
       not-who (free m b) j k o q = false≢true (sym m ∙ place-member who (K .ids c) j (omega (arith, ids-length)) (sym q))
 
       -- whoever lost its slot owes nothing
-      pushed-out : (x : ℕ) → Free who i → (who ≡ x → ⊥) → idAt K c i ≡ x → owed p at x h ≡ 0
+      pushed-out : (x : ℕ) → Free who i → (who ≡ x → ⊥) → idAt K c i ≡ x → owed ps at x h ≡ 0
       pushed-out x (own e) o q = absurd (o (sym e ∙ q))
       pushed-out x (free m b) o q = by (somebody x) refl
         where
-          by : (t : Bool) → somebody x ≡ t → owed p at x h ≡ 0
-          by true t =
-              let there = ap (λ (k : ℕ). somebody k) q ∙ t in
-              ap (λ (k : ℕ). owed p at k h) (sym q) ∙ sym (v .agree i w there) ∙ b there
-          by false t = ap (λ (k : ℕ). owed p at k h) (nobody-is-0 x t) ∙ v .nobody
+          by : (t : Bool) → somebody x ≡ t → owed ps at x h ≡ 0
+          by true t = ap (λ (k : ℕ). owed ps at k h) (sym q) ∙ b (ap (λ (k : ℕ). somebody k) q ∙ t)
+          by false t = ap (λ (k : ℕ). owed ps at k h) (nobody-is-0 x t) ∙ v .nobody
 
-      gone : (x : ℕ) → (who ≡ x → ⊥) → member x (set (K .ids c) i who) ≡ false → owed p at x h ≡ 0
+      gone : (x : ℕ) → (who ≡ x → ⊥) → member x (set (K .ids c) i who) ≡ false → owed ps at x h ≡ 0
       gone x o m = by (member x (K .ids c)) refl
         where
-          here : (j : ℕ) → j < length (K .ids c) → getD (K .ids c) j 0 ≡ x → Dec (j ≡ i) → owed p at x h ≡ 0
+          here : (j : ℕ) → j < length (K .ids c) → getD (K .ids c) j 0 ≡ x → Dec (j ≡ i) → owed ps at x h ≡ 0
           here j k q (yes e) = pushed-out x f o (ap (λ (k : ℕ). getD (K .ids c) k 0) (sym e) ∙ q)
           here j k q (no d) = absurd (gone-elsewhere x who (K .ids c) i j m k d q)
 
-          by : (t : Bool) → member x (K .ids c) ≡ t → owed p at x h ≡ 0
+          by : (t : Bool) → member x (K .ids c) ≡ t → owed ps at x h ≡ 0
           by true t = let s = member-place x (K .ids c) t in here (s .0) (s .1 .0) (s .1 .1) (ℕ-discrete (s .0) i)
           by false t = v .strangers x t
 
-      -- an admission that is not before the newest moment keeps it
+      -- an admission that is not before the newest moment keeps it, under the plan of the run so far or with nothing owed
       pub admission :
-          newest h ≤ at → E .admits p at held cost ≡ true → E .backlog p at held ≡ owed p at who h →
-          Related E K p n at (K .put c i who at (E .spend p at held cost)) (h ++ (record { subscriber = who; moment = at; cost = cost } ∷ []))
-      admission late a b =
+          newest h ≤ at → known ps k ≡ true → E .admits (planAt ps k) at held cost ≡ true →
+          E .backlog (planAt ps k) at held ≡ owed ps at who h → (eqb (planNumber who h) k ≡ false → owed ps at who h ≡ 0) →
+          Related E K ps n at (K .put c i who at (plannedOf k (E .spend (planAt ps k) at held cost)))
+          (h ++ (record { subscriber = who; moment = at; plan = k; cost = cost } ∷ []))
+      admission late lent a b drained =
           record {
-            slots = S .slots-put c i who at (E .spend p at held cost) ∙ v .slots;
+            slots = S .slots-put c i who at spent ∙ v .slots;
             table = v .table;
-            latest = S .newest-put c i who at (E .spend p at held cost) ∙ sym (newest-end h entry late);
-            apart = subst (λ (l : List ℕ). Apart somebody l) (sym (S .ids-put c i who at (E .spend p at held cost))) (apart-set f);
-            sound = λ j k o. sound-at j k o (ℕ-discrete j i);
-            agree = λ j k o. agree-at j k o (ℕ-discrete j i);
-            nobody = owed-others p at h entry 0 (somebody-not-0 who real) ∙ v .nobody;
+            latest = S .newest-put c i who at spent ∙ sym (newest-end h entry late);
+            apart = subst (λ (l : List ℕ). Apart somebody l) (sym (S .ids-put c i who at spent)) (apart-set f);
+            matched = λ j k o. matched-at j k o (ℕ-discrete j i);
+            nobody = owed-others ps at h entry 0 (somebody-not-0 who real) ∙ v .nobody;
             strangers = λ x m.
-                let absent = ap (λ (l : List ℕ). member x l) (sym (S .ids-put c i who at (E .spend p at held cost))) ∙ m in
+                let absent = ap (λ (l : List ℕ). member x l) (sym (S .ids-put c i who at spent)) ∙ m in
                 let other = gone-other x who (K .ids c) i absent in-ids in
-                owed-others p at h entry x other ∙ gone x other absent;
+                owed-others ps at h entry x other ∙ gone x other absent;
           }
         where
-          here : K .row put i ≡ E .spend p at held cost
-          here = S .row-same c i who at (E .spend p at held cost) (omega (arith, v .slots))
+          after : List Entry
+          after = h ++ (entry ∷ [])
 
-          sound-at : (j : ℕ) → j < n → somebody (idAt K put j) ≡ true → Dec (j ≡ i) → E .sound p at (K .row put j) ≡ true
-          sound-at j k o (yes e) =
-              ap (λ (x : ℕ). E .sound p at (K .row put x)) e ∙ ap (λ (x : R). E .sound p at x) here ∙ L .spends-sound p at held cost a
-          sound-at j k o (no d) =
-              ap (λ (x : R). E .sound p at x) (S .row-other c i j who at (E .spend p at held cost) d)
-              ∙ v .sound j k (ap (λ (x : ℕ). somebody x) (sym (id-other j d)) ∙ o)
+          own-matched : Matched E ps at spent who after
+          own-matched =
+              record {
+                lent = lent;
+                number = sym (number-own h entry);
+                sound = L .spends-sound (planAt ps k) at held cost a;
+                agree =
+                    L .spends (planAt ps k) at held cost a ∙ ap (λ (x : ℕ). x + price (planAt ps k) cost) b
+                    ∙ sym (owed-spends ps h entry drained);
+              }
 
-          own-agrees : E .backlog p at (K .row put i) ≡ owed p at (idAt K put i) (h ++ (entry ∷ []))
-          own-agrees =
-              ap (λ (x : R). E .backlog p at x) here ∙ L .spends p at held cost a ∙ ap (λ (x : ℕ). x + price p cost) b
-              ∙ sym (ap (λ (x : ℕ). owed p at x (h ++ (entry ∷ []))) id-same ∙ owed-spends p h entry)
+          other-matched : (x : Planned R) (id : ℕ) → (who ≡ id → ⊥) → Matched E ps at x id h → Matched E ps at x id after
+          other-matched x id d m =
+              record {
+                lent = m .lent;
+                number = m .number ∙ sym (number-others h entry id d);
+                sound = m .sound;
+                agree = m .agree ∙ sym (owed-others ps at h entry id d);
+              }
 
-          agree-at :
-              (j : ℕ) → j < n → somebody (idAt K put j) ≡ true → Dec (j ≡ i) →
-              E .backlog p at (K .row put j) ≡ owed p at (idAt K put j) (h ++ (entry ∷ []))
-          agree-at j k o (yes e) =
-              subst (λ (x : ℕ). E .backlog p at (K .row put x) ≡ owed p at (idAt K put x) (h ++ (entry ∷ []))) (sym e) own-agrees
-          agree-at j k o (no d) =
-              ap (λ (x : R). E .backlog p at x) (S .row-other c i j who at (E .spend p at held cost) d)
-              ∙ v .agree j k (ap (λ (x : ℕ). somebody x) (sym (id-other j d)) ∙ o)
-              ∙ sym (ap (λ (x : ℕ). owed p at x (h ++ (entry ∷ []))) (id-other j d) ∙ owed-others p at h entry (idAt K c j) (not-who f j k d))
+          matched-at :
+              (j : ℕ) → j < n → somebody (idAt K put j) ≡ true → Dec (j ≡ i) → Matched E ps at (K .row put j) (idAt K put j) after
+          matched-at j k o (yes e) =
+              subst (λ (x : ℕ). Matched E ps at (K .row put x) (idAt K put x) after) (sym e)
+              (subst (λ (x : Planned R). Matched E ps at x (idAt K put i) after) (sym (S .row-same c i who at spent (omega (arith, v .slots))))
+              (subst (λ (x : ℕ). Matched E ps at spent x after) (sym id-same) own-matched))
+          matched-at j k o (no d) =
+              subst (λ (x : Planned R). Matched E ps at x (idAt K put j) after) (sym (S .row-other c i j who at spent d))
+              (subst (λ (x : ℕ). Matched E ps at (K .row c j) x after) (sym (id-other j d))
+              (other-matched (K .row c j) (idAt K c j) (not-who f j k d)
+              (v .matched j k (ap (λ (x : ℕ). somebody x) (sym (id-other j d)) ∙ o))))

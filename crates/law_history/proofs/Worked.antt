@@ -1,64 +1,99 @@
--- Demand 3 at one run whose moments fall, under a good plan and a bad one: it holds whatever the two slots and the newest moments were
--- before the clears, and the answers are those of the documents.
+-- The runs, computed: the history gives the documents' answers, under good plans and bad ones; and the slots that they start on are
+-- such as demand 3 is about, whatever they and the newest moments were before the clears.
 -- It names definitions of other crates on its `unfolding` lines, as a worked example may.
 -- Assumes nothing.
-use mathlib.Core.Path.{_≡_, refl, _∙_}
-use mathlib.Core.List.{[], _∷_}
+use mathlib.Core.Path.{_≡_, refl}
+use mathlib.Core.List.{List, [], _∷_}
 use Prim.Native.Nat.{ℕ}
+use native.Mathlib.Omega.{arith}
+use Rattle.ticks.specs.declared.plan.Plan.{Plan}
+use Rattle.ticks.specs.Grains.{ticksIn, price, capacity, divUp, oneTo, planOk, onClock}
 use Rattle.rate.specs.Answer.{answered}
 use Rattle.rate.specs.Decision.{admissible, remaining, resetAt, retryAfter, bare, reported, admitted, retryFrom, denied, throttled}
-use Rattle.rate.specs.Account.{guard}
-use Rattle.ticks.specs.Grains.{ticksIn, price, capacity, divUp, oneTo, planOk, onClock}
+use Rattle.rate.specs.Account.{guard, judge, report, settled}
+use Rattle.plans.specs.Plans as lent
+use Rattle.plans.specs.Plans.{known, planAt, allOk, countOk, lentOk, plansOk}
+use Rattle.rule_gcra.specs.Gcra as paced
+use Rattle.rule_token_bucket.specs.TokenBucket as bucket
 use Rattle.table.specs.Checks.{slotsOk, queryCheck, costCheck, requestCheck}
-use Rattle.table.specs.Slots.{common}
+use Rattle.table.specs.Slots.{common, seekFrom, seek, carries, own, vacant, lowestFree}
 use Rattle.table.specs.Calls as calls
-use Rattle.table.specs.Worked.{plan, line}
+use Rattle.table.specs.Worked.{line}
 use Rattle.table_gcra.specs.Table as gcra-table
 use Rattle.table_token_bucket.specs.Table as token-bucket-table
 use Rattle.law_history.specs.Demand3.{Start, Agreement}
 use Rattle.law_history.specs.History as book
-use Rattle.law_history.specs.History.{callsOf, costs, debt, owed, member, names, keep, owes, debtors, decide, newest}
-use Rattle.law_history.specs.Run.{engine, history, step, answers}
-use Rattle.law_history.specs.Worked.{run, expected, badPlan, refusals}
-use Rattle.law_history.proofs.Demand3.{demand-3}
+use Rattle.law_history.specs.History.{callsOf, numberOf, extend, latestFrom, runOf, planNumber, costs, debt, owed, member, names, keep, owes, debtors, owesElsewhere, decide, newest, shown}
+use Rattle.law_history.specs.NeverCorrupt.{NeverFrom}
+use Rattle.law_history.specs.Run.{Call, acquire, peek, engine, history, step, answers}
+use Rattle.law_history.specs.Worked.{terms, plans, falling, fallingAnswers, ending, endingAnswers, owing, owingAnswers, changing, changingAnswers, spoilt, tooMany, refusals}
 
-history-answers : answers (history 1) plan [] run ≡ expected
-unfolding answered admissible remaining resetAt retryAfter bare reported admitted retryFrom denied throttled guard ticksIn price capacity divUp oneTo planOk onClock slotsOk queryCheck costCheck requestCheck line book.acquire book.peek book.clear callsOf costs debt owed member names keep owes debtors decide newest history step answers plan run expected
-history-answers = refl
+pub falling-answered : answers (history 1) plans [] falling ≡ fallingAnswers
+unfolding answered admissible remaining resetAt retryAfter bare reported admitted retryFrom denied throttled guard known planAt allOk countOk lentOk plansOk ticksIn price capacity divUp oneTo planOk onClock slotsOk queryCheck costCheck requestCheck line book.acquire book.peek book.clear callsOf numberOf extend latestFrom runOf planNumber costs debt owed member names keep owes debtors owesElsewhere decide newest shown history step answers terms plans falling fallingAnswers
+falling-answered = refl
 
-history-refuses : answers (history 1) badPlan [] run ≡ refusals run
-unfolding answered bare guard oneTo planOk queryCheck requestCheck line book.acquire book.peek book.clear history step answers badPlan run refusals
-history-refuses = refl
+pub ending-answered : answers (history 1) plans [] ending ≡ endingAnswers
+unfolding answered admissible remaining resetAt retryAfter bare reported admitted retryFrom denied throttled guard known planAt allOk countOk lentOk plansOk ticksIn price capacity divUp oneTo planOk onClock slotsOk queryCheck costCheck requestCheck line book.acquire book.peek book.clear callsOf numberOf extend latestFrom runOf planNumber costs debt owed member names keep owes debtors owesElsewhere decide newest shown history step answers terms plans ending endingAnswers
+ending-answered = refl
 
-module _ (id tat before : ℕ) (bucket-id level last bucket-before : ℕ) where
-  abbrev gcra-slot : gcra-table.Table
-  gcra-slot = gcra-table.tableOf (id ∷ []) (tat ∷ []) before
+pub owing-answered : answers (history 1) plans [] owing ≡ owingAnswers
+unfolding answered admissible remaining resetAt retryAfter bare reported admitted retryFrom denied throttled guard known planAt allOk countOk lentOk plansOk ticksIn price capacity divUp oneTo planOk onClock slotsOk queryCheck costCheck requestCheck line book.acquire book.peek book.clear callsOf numberOf extend latestFrom runOf planNumber costs debt owed member names keep owes debtors owesElsewhere decide newest shown history step answers terms plans owing owingAnswers
+owing-answered = refl
 
-  abbrev bucket-slot : token-bucket-table.Table
-  bucket-slot = token-bucket-table.tableOf (bucket-id ∷ []) (level ∷ []) (last ∷ []) bucket-before
+pub changing-answered : answers (history 1) plans [] changing ≡ changingAnswers
+unfolding answered admissible remaining resetAt retryAfter bare reported admitted retryFrom denied throttled guard known planAt allOk countOk lentOk plansOk ticksIn price capacity divUp oneTo planOk onClock slotsOk queryCheck costCheck requestCheck line book.acquire book.peek book.clear callsOf numberOf extend latestFrom runOf planNumber costs debt owed member names keep owes debtors owesElsewhere decide newest shown history step answers terms plans changing changingAnswers
+changing-answered = refl
 
-  start : Start 1 gcra-slot bucket-slot
-  unfolding answered bare slotsOk common calls.clear gcra-table.columns token-bucket-table.columns
-  start = record { gcra-slots = refl; token-bucket-slots = refl; gcra-cleared = refl; token-bucket-cleared = refl }
+-- all calls are refused under these plans
+abbrev pub Refused : List Plan → Type 0
+Refused ps = answers (history 1) ps [] changing ≡ refusals changing
 
-  pub agree : Agreement plan 1 gcra-slot bucket-slot run
-  agree = demand-3 plan 1 gcra-slot bucket-slot start run
+pub spoilt-refused : Refused spoilt
+unfolding answered admissible remaining resetAt retryAfter bare reported admitted retryFrom denied throttled guard known planAt allOk countOk lentOk plansOk ticksIn price capacity divUp oneTo planOk onClock slotsOk queryCheck costCheck requestCheck line book.acquire book.peek book.clear callsOf numberOf extend latestFrom runOf planNumber costs debt owed member names keep owes debtors owesElsewhere decide newest shown history step answers terms changing refusals spoilt
+spoilt-refused = refl
 
-  pub agree-refusing : Agreement badPlan 1 gcra-slot bucket-slot run
-  agree-refusing = demand-3 badPlan 1 gcra-slot bucket-slot start run
+pub none-refused : Refused []
+unfolding answered bare guard known planAt allOk countOk lentOk plansOk oneTo planOk queryCheck requestCheck line book.acquire book.peek book.clear history step answers terms changing refusals
+none-refused = refl
 
-  -- so each engine gives these answers
-  pub gcra-answers : answers (engine gcra-table.rule gcra-table.columns) plan (gcra-table.clear gcra-slot .after) run ≡ expected
-  gcra-answers = agree .gcra-is-history ∙ history-answers
+pub too-many-refused : Refused tooMany
+unfolding answered bare guard known planAt allOk countOk lentOk plansOk oneTo planOk queryCheck requestCheck line book.acquire book.peek book.clear history step answers terms changing refusals tooMany
+too-many-refused = refl
 
-  pub gcra-refuses : answers (engine gcra-table.rule gcra-table.columns) badPlan (gcra-table.clear gcra-slot .after) run ≡ refusals run
-  gcra-refuses = agree-refusing .gcra-is-history ∙ history-refuses
+-- any slot of each engine
+abbrev pub gcra-slot : ℕ → ℕ → ℕ → ℕ → gcra-table.Table
+gcra-slot id number tat newest = gcra-table.tableOf (id ∷ []) (number ∷ []) (tat ∷ []) newest
 
-  pub token-bucket-answers :
-      answers (engine token-bucket-table.rule token-bucket-table.columns) plan (token-bucket-table.clear bucket-slot .after) run ≡ expected
-  token-bucket-answers = agree .token-bucket-is-history ∙ history-answers
+abbrev pub bucket-slot : ℕ → ℕ → ℕ → ℕ → ℕ → token-bucket-table.Table
+bucket-slot id number level last newest = token-bucket-table.tableOf (id ∷ []) (number ∷ []) (level ∷ []) (last ∷ []) newest
 
-  pub token-bucket-refuses :
-      answers (engine token-bucket-table.rule token-bucket-table.columns) badPlan (token-bucket-table.clear bucket-slot .after) run
-      ≡ refusals run
-  token-bucket-refuses = agree-refusing .token-bucket-is-history ∙ history-refuses
+pub one-slot :
+    (id number tat newest : ℕ) (bucket-id bucket-number level last bucket-newest : ℕ) →
+    Start 1 (gcra-slot id number tat newest) (bucket-slot bucket-id bucket-number level last bucket-newest)
+unfolding answered bare slotsOk common calls.clear gcra-table.records token-bucket-table.records
+one-slot id number tat newest bucket-id bucket-number level last bucket-newest =
+    record { gcra-slots = refl; token-bucket-slots = refl; gcra-cleared = refl; token-bucket-cleared = refl }
+
+-- two admissions, a wait, and the slot taken over at the first moment at which it is free
+abbrev four : List Call
+four = acquire 1000 7 0 1 ∷ acquire 1000 7 0 1 ∷ acquire 1000 7 0 1 ∷ acquire 1667 8 0 2 ∷ []
+
+-- demand 3 at these calls, computed and not by the theorem
+pub four-agree :
+    (id number tat newest : ℕ) (bucket-id bucket-number level last bucket-newest : ℕ) →
+    Agreement plans 1 (gcra-slot id number tat newest) (bucket-slot bucket-id bucket-number level last bucket-newest) four
+unfolding answered admissible remaining resetAt retryAfter bare reported admitted retryFrom denied throttled guard known planAt allOk countOk lentOk plansOk ticksIn price capacity divUp oneTo planOk onClock slotsOk queryCheck costCheck requestCheck line book.acquire book.peek book.clear callsOf numberOf extend latestFrom runOf planNumber costs debt owed member names keep owes debtors owesElsewhere decide newest shown history step answers terms plans judge report settled lent.possible lent.owing lent.faultOf lent.current paced.gcra paced.fresh paced.sound paced.free paced.later paced.backlog paced.admits paced.spend bucket.tokenBucket bucket.fresh bucket.sound bucket.refilled bucket.free bucket.levelNow bucket.backlog bucket.admits bucket.spend common seekFrom seek carries own vacant lowestFree calls.ruled calls.newcomer calls.judgeIn calls.commit calls.slotFrom calls.slotFor calls.judgeCall calls.acquire calls.heldAt calls.held calls.peekVerdict calls.peek calls.clear gcra-table.records token-bucket-table.records engine
+four-agree id number tat newest bucket-id bucket-number level last bucket-newest =
+    record { gcra-is-history = refl; token-bucket-is-history = refl }
+
+-- a slot of shop 7 whose TAT is impossible gives 7, and none once it is cleared
+abbrev damaged : gcra-table.Table
+damaged = gcra-slot 7 0 1000000 0
+
+pub damaged-gets-7 : answers (engine gcra-table.rule gcra-table.columns) plans damaged (peek 1000 7 0 ∷ []) ≡ line 7 7 0 0 0 ∷ []
+unfolding answered admissible remaining resetAt retryAfter bare reported admitted retryFrom denied throttled guard known planAt allOk countOk lentOk plansOk ticksIn price capacity divUp oneTo planOk onClock slotsOk queryCheck costCheck requestCheck line book.acquire book.peek book.clear callsOf numberOf extend latestFrom runOf planNumber costs debt owed member names keep owes debtors owesElsewhere decide newest shown history step answers terms plans judge report settled lent.possible lent.owing lent.faultOf lent.current paced.gcra paced.fresh paced.sound paced.free paced.later paced.backlog paced.admits paced.spend bucket.tokenBucket bucket.fresh bucket.sound bucket.refilled bucket.free bucket.levelNow bucket.backlog bucket.admits bucket.spend common seekFrom seek carries own vacant lowestFree calls.ruled calls.newcomer calls.judgeIn calls.commit calls.slotFrom calls.slotFor calls.judgeCall calls.acquire calls.heldAt calls.held calls.peekVerdict calls.peek calls.clear gcra-table.records token-bucket-table.records engine
+damaged-gets-7 = refl
+
+pub damaged-cleared : NeverFrom gcra-table.rule gcra-table.columns plans damaged (peek 1000 7 0 ∷ [])
+unfolding answered admissible remaining resetAt retryAfter bare reported admitted retryFrom denied throttled guard known planAt allOk countOk lentOk plansOk ticksIn price capacity divUp oneTo planOk onClock slotsOk queryCheck costCheck requestCheck line book.acquire book.peek book.clear callsOf numberOf extend latestFrom runOf planNumber costs debt owed member names keep owes debtors owesElsewhere decide newest shown history step answers terms plans judge report settled lent.possible lent.owing lent.faultOf lent.current paced.gcra paced.fresh paced.sound paced.free paced.later paced.backlog paced.admits paced.spend bucket.tokenBucket bucket.fresh bucket.sound bucket.refilled bucket.free bucket.levelNow bucket.backlog bucket.admits bucket.spend common seekFrom seek carries own vacant lowestFree calls.ruled calls.newcomer calls.judgeIn calls.commit calls.slotFrom calls.slotFor calls.judgeCall calls.acquire calls.heldAt calls.held calls.peekVerdict calls.peek calls.clear gcra-table.records token-bucket-table.records engine
+damaged-cleared e = (λ z. omega (arith, z), tt)
