@@ -1,7 +1,7 @@
 -- The laws of `specs/Laws`, by computing.
 -- Assumes nothing.
 use mathlib.Core.Path.{refl}
-use Rattle.ticks.specs.declared.plan.Plan.{Plan}
+use Rattle.plans.specs.Plans.{Plans}
 use Rattle.table.specs.Request.{Query, Request}
 use Rattle.table.specs.Calls.{Step}
 use Rattle.c_answer.specs.Five.{five}
@@ -17,13 +17,11 @@ laws =
     }
 
 pub call-places :
-    {T : Type 0} (acquire : Request Plan → T → Step T) (peek : Query Plan → T → Step T) (clear : T → Step T) →
+    {T : Type 0} (acquire : Request Plans → T → Step T) (peek : Query Plans → T → Step T) (clear : T → Step T) →
     CallPlaces acquire peek clear
 call-places acquire peek clear =
     record {
-      acquire-places = λ limit period burst moment subscriber cost t.
-          laws .five-places (acquire (ask limit period burst moment subscriber cost) t .answer);
-      peek-places = λ limit period burst moment subscriber t.
-          laws .five-places (peek (look limit period burst moment subscriber) t .answer);
+      acquire-places = λ plans moment subscriber plan cost t. laws .five-places (acquire (ask plans moment subscriber plan cost) t .answer);
+      peek-places = λ plans moment subscriber plan t. laws .five-places (peek (look plans moment subscriber plan) t .answer);
       clear-places = λ t. laws .five-places (clear t .answer);
     }

@@ -4,8 +4,9 @@ use Prim.Native.Nat.{ℕ}
 use mathlib.Core.Path.{_≡_}
 use mathlib.Core.List.{List}
 use lib.ListN.{length, getD}
-use Rattle.ticks.specs.declared.plan.Plan.{Plan}
 use Rattle.rate.specs.declared.answer.Numbers.{Numbers}
+use Rattle.plans.specs.Lent.{plansIn}
+use Rattle.plans.specs.Plans.{Plans, plansOf}
 use Rattle.table.specs.Request.{Query, Request, queryOf, requestOf}
 use Rattle.table.specs.Calls.{Step}
 use Rattle.c_answer.specs.Five.{five, planOf}
@@ -24,23 +25,23 @@ pub record Laws : Type 0 where
   -- a host names a plan by limit, period and burst, in this order
   pub plan-named : (limit period burst : ℕ) → planOf limit period burst ≡ record { limit = limit; period = period; burst = burst }
 
--- the look that a host's numbers name, and the ask
-abbrev pub look : ℕ → ℕ → ℕ → ℕ → ℕ → Query Plan
-look limit period burst moment subscriber =
-    record { setting = record { limit = limit; period = period; burst = burst }; moment = moment; subscriber = subscriber }
+-- the look that a host's numbers name, and the ask: the plans that are lent in one slice, and the number of the one asked for
+abbrev pub look : List ℕ → ℕ → ℕ → ℕ → Query Plans
+look plans moment subscriber plan =
+    record { setting = record { plans = plansIn plans; number = plan }; moment = moment; subscriber = subscriber }
 
-abbrev pub ask : ℕ → ℕ → ℕ → ℕ → ℕ → ℕ → Request Plan
-ask limit period burst moment subscriber cost = record { query = look limit period burst moment subscriber; cost = cost }
+abbrev pub ask : List ℕ → ℕ → ℕ → ℕ → ℕ → Request Plans
+ask plans moment subscriber plan cost = record { query = look plans moment subscriber plan; cost = cost }
 
 -- what a host receives of the three calls on tables of some kind: the five numbers of the call that it names, each at its place
 pub record CallPlaces
-    {T : Type 0} (acquire : Request Plan → T → Step T) (peek : Query Plan → T → Step T) (clear : T → Step T) : Type 0 where
+    {T : Type 0} (acquire : Request Plans → T → Step T) (peek : Query Plans → T → Step T) (clear : T → Step T) : Type 0 where
   pub acquire-places :
-      (limit period burst moment subscriber cost : ℕ) (t : T) →
-      Places (acquire (ask limit period burst moment subscriber cost) t .answer)
-      (five (acquire (requestOf (planOf limit period burst) moment subscriber cost) t .answer))
+      (plans : List ℕ) (moment subscriber plan cost : ℕ) (t : T) →
+      Places (acquire (ask plans moment subscriber plan cost) t .answer)
+      (five (acquire (requestOf (plansOf (plansIn plans) plan) moment subscriber cost) t .answer))
   pub peek-places :
-      (limit period burst moment subscriber : ℕ) (t : T) →
-      Places (peek (look limit period burst moment subscriber) t .answer)
-      (five (peek (queryOf (planOf limit period burst) moment subscriber) t .answer))
+      (plans : List ℕ) (moment subscriber plan : ℕ) (t : T) →
+      Places (peek (look plans moment subscriber plan) t .answer)
+      (five (peek (queryOf (plansOf (plansIn plans) plan) moment subscriber) t .answer))
   pub clear-places : (t : T) → Places (clear t .answer) (five (clear t .answer))

@@ -20,6 +20,7 @@ fn two(transcribed: Transcribed) -> [u64; 2]
 pub extern "C" fn railcadence_transcribe(
     text: &[u8],
     ids: &mut [u32],
+    numbers: &mut [u8],
     tats: &mut [u64],
     newest: &mut u64,
     out: &mut [u8],
@@ -27,11 +28,11 @@ pub extern "C" fn railcadence_transcribe(
 )
     ensures { λ _. ⌜ now (result .exit) ≡ two
         (transcribed (now (text .entry))
-        (tableOf (now (ids .entry)) (now (tats .entry)) (now (newest .entry))) (now (out .entry)) .answer) ⌝ }
-    ensures { λ _. ⌜ lentOf (tableOf (now (ids .exit)) (now (tats .exit)) (now (newest .exit))) (now (out .exit))
+        (tableOf (now (ids .entry)) (now (numbers .entry)) (now (tats .entry)) (now (newest .entry))) (now (out .entry)) .answer) ⌝ }
+    ensures { λ _. ⌜ lentOf (tableOf (now (ids .exit)) (now (numbers .exit)) (now (tats .exit)) (now (newest .exit))) (now (out .exit))
         ≡ transcribed (now (text .entry))
-        (tableOf (now (ids .entry)) (now (tats .entry)) (now (newest .entry))) (now (out .entry)) .left ⌝ }
+        (tableOf (now (ids .entry)) (now (numbers .entry)) (now (tats .entry)) (now (newest .entry))) (now (out .entry)) .left ⌝ }
 {
-    let transcribed = text_transcript::transcribe(text, ids, tats, newest, out);
+    let transcribed = text_transcript::transcribe(text, ids, numbers, tats, newest, out);
     *result = two(transcribed);
 }

@@ -16,6 +16,12 @@ pub fn ids() -> [u32; 1024]
     [0; 1024]
 }
 
+pub fn numbers() -> [u8; 1024]
+    ensures { λ r. ⌜ 1024 ≡ length r ⌝ }
+{
+    [0; 1024]
+}
+
 pub fn tats() -> [u64; 1024]
     ensures { λ r. ⌜ 1024 ≡ length r ⌝ }
 {

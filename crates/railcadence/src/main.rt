@@ -13,6 +13,7 @@ fn main() {
     let mut piece = io::buffer();
     let mut line = buffers::line();
     let mut ids = buffers::ids();
+    let mut numbers = buffers::numbers();
     let mut tats = buffers::tats();
     let mut newest = 0;
     let mut out = buffers::out();
@@ -23,6 +24,7 @@ fn main() {
         &mut piece,
         &mut line,
         &mut ids,
+        &mut numbers,
         &mut tats,
         &mut newest,
         &mut out,

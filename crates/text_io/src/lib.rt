@@ -82,21 +82,32 @@ pub fn answer(
     n: usize,
     line: &mut [u8],
     ids: &mut [u32],
+    numbers: &mut [u8],
     tats: &mut [u64],
     newest: &mut u64,
     out: &mut [u8],
     sent: &mut u64,
 ) -> Answered
     requires { ⌜ Ready session (now line) ⌝ }
-    requires { ⌜ Lent (now ids) (now tats) ⌝ }
+    requires { ⌜ Lent (now ids) (now numbers) (now tats) ⌝ }
     requires { ⌜ Ample (now piece) (now out) ⌝ }
     requires { ⌜ n ≤ length (now piece) ⌝ }
     ensures { λ r. ⌜ Onwards r (stateOf session (now (line .entry))
-        (tableOf (now (ids .entry)) (now (tats .entry)) (now (newest .entry)))) (take n (now (piece .entry)))
-        (now (line .exit)) (tableOf (now (ids .exit)) (now (tats .exit)) (now (newest .exit)))
+        (tableOf (now (ids .entry)) (now (numbers .entry)) (now (tats .entry)) (now (newest .entry)))) (take n (now (piece .entry)))
+        (now (line .exit)) (tableOf (now (ids .exit)) (now (numbers .exit)) (now (tats .exit)) (now (newest .exit)))
         (now (out .exit)) (now (sent .entry)) (now (sent .exit)) ⌝ }
 {
-    let fed = text_stream::feed(session, &piece[..n], line, ids, tats, newest, out, 0);
+    let fed = text_stream::feed(
+        session,
+        &piece[..n],
+        line,
+        ids,
+        numbers,
+        tats,
+        newest,
+        out,
+        0,
+    );
     let next = fed.session;
     if write(out, fed.at, sent) {
         return Answered::Next(next);

@@ -97,7 +97,7 @@ closed s line r none TooLong out sent′ f = absurd f
 closed s line r none Unwritten out sent′ f = tt
 
 -- with the header in front
-module _ (a : Account) (lent : Lent (a .table .ids) (a .table .tats)) {sent : ℕ} (h : Counted (a .sent) (length header) sent) where
+module _ (a : Account) (lent : Lent (a .table .table .ids) (a .table .numbers) (a .table .table .tats)) {sent : ℕ} (h : Counted (a .sent) (length header) sent) where
   abbrev begun : Account
   begun = accountOf (a .table) (a .taken) sent
 

@@ -29,7 +29,7 @@ pub record RunLaws (a : Account) : Type 0 where
       Reached a (turns - 1) τ taken′ sent′
   -- the header and then the answers are the whole run
   pub served :
-      Lent (a .table .ids) (a .table .tats) → {sent : ℕ} → Counted (a .sent) (length header) sent → (run : Run) (b : Account) →
+      Lent (a .table .table .ids) (a .table .numbers) (a .table .table .tats) → {sent : ℕ} → Counted (a .sent) (length header) sent → (run : Run) (b : Account) →
       Answers run (accountOf (a .table) (a .taken) sent) b → Serves run a b
   -- what a run comes to that ended with the input, that could not read on, and that was too long for it
   pub ended : {b : Account} → Serves Ended a b → Ran 0 transcript a b

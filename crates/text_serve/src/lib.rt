@@ -43,6 +43,7 @@ fn pieces(
     piece: &mut [u8],
     line: &mut [u8],
     ids: &mut [u32],
+    numbers: &mut [u8],
     tats: &mut [u64],
     newest: &mut u64,
     out: &mut [u8],
@@ -50,12 +51,12 @@ fn pieces(
     sent: &mut u64,
 ) -> Run
     requires { ⌜ mostLine ≤ length (now line) ⌝ }
-    requires { ⌜ Lent (now ids) (now tats) ⌝ }
+    requires { ⌜ Lent (now ids) (now numbers) (now tats) ⌝ }
     requires { ⌜ Ample (now piece) (now out) ⌝ }
     ensures { λ r. ⌜ Answers r
-        (accountOf (tableOf (now (ids .entry)) (now (tats .entry)) (now (newest .entry)))
+        (accountOf (tableOf (now (ids .entry)) (now (numbers .entry)) (now (tats .entry)) (now (newest .entry)))
         (now (taken .entry)) (now (sent .entry)))
-        (accountOf (tableOf (now (ids .exit)) (now (tats .exit)) (now (newest .exit)))
+        (accountOf (tableOf (now (ids .exit)) (now (numbers .exit)) (now (tats .exit)) (now (newest .exit)))
         (now (taken .exit)) (now (sent .exit))) ⌝ }
 {
     let mut session = text_stream::start();
@@ -66,7 +67,18 @@ fn pieces(
         }
         match text_io::read(piece, taken) {
             Input::Got(n) => {
-                let told = text_io::answer(session, piece, n, line, ids, tats, newest, out, sent);
+                let told = text_io::answer(
+                    session,
+                    piece,
+                    n,
+                    line,
+                    ids,
+                    numbers,
+                    tats,
+                    newest,
+                    out,
+                    sent,
+                );
                 let Answered::Next(next) = told else {
                     break Run::Unwritten;
                 };
@@ -84,6 +96,7 @@ pub fn serve(
     piece: &mut [u8],
     line: &mut [u8],
     ids: &mut [u32],
+    numbers: &mut [u8],
     tats: &mut [u64],
     newest: &mut u64,
     out: &mut [u8],
@@ -91,16 +104,16 @@ pub fn serve(
     sent: &mut u64,
 ) -> Run
     requires { ⌜ mostLine ≤ length (now line) ⌝ }
-    requires { ⌜ Lent (now ids) (now tats) ⌝ }
+    requires { ⌜ Lent (now ids) (now numbers) (now tats) ⌝ }
     requires { ⌜ Ample (now piece) (now out) ⌝ }
     ensures { λ r. ⌜ Serves r
-        (accountOf (tableOf (now (ids .entry)) (now (tats .entry)) (now (newest .entry)))
+        (accountOf (tableOf (now (ids .entry)) (now (numbers .entry)) (now (tats .entry)) (now (newest .entry)))
         (now (taken .entry)) (now (sent .entry)))
-        (accountOf (tableOf (now (ids .exit)) (now (tats .exit)) (now (newest .exit)))
+        (accountOf (tableOf (now (ids .exit)) (now (numbers .exit)) (now (tats .exit)) (now (newest .exit)))
         (now (taken .exit)) (now (sent .exit))) ⌝ }
 {
     if text_io::begin(out, sent) {
-        return pieces(piece, line, ids, tats, newest, out, taken, sent);
+        return pieces(piece, line, ids, numbers, tats, newest, out, taken, sent);
     }
     Run::Unwritten
 }

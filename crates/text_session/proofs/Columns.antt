@@ -1,9 +1,8 @@
--- What the calls leave of the columns: a turn keeps the length of both, so that the table fits back in front of the other
+-- What the calls leave of the columns: a turn keeps the length of all, so that the table fits back in front of the other
 -- slots; and a clear of the first slots leaves zeros in them.
 -- Assumes nothing.
-use mathlib.Core.Path.{_≡_, sym, ap, ap₂, _∙_}
+use mathlib.Core.Path.{_≡_, sym, ap, _∙_}
 use mathlib.Core.Bool.{true}
-use mathlib.Core.List.{List}
 use Prim.Native.Nat.{ℕ, _≤_}
 use native.Mathlib.Omega.{arith}
 use lib.Dec.{leb}
@@ -17,53 +16,63 @@ use Rattle.table_gcra.specs.Table.{Table, tableOf, clear}
 use Rattle.table_gcra.proofs.Lengths.{SameLengths, same-lengths, acquire-lengths, clear-zeros}
 use Rattle.text_protocol.specs.declared.command.Command.{Command}
 use Rattle.text_protocol.specs.declared.command.Command.the-variants.{Plan, Ask, Unreadable}
-use Rattle.text_session.specs.Session.{turn, textSlots, part, back}
+use Rattle.text_session.specs.Session.{only, turn, textSlots, part, back, Room}
 
 pub turn-lengths : (plan : plan.Plan) (c : Command) (t : Table) → SameLengths (turn plan c t .after) t
 unfolding turn
-turn-lengths plan (Ask moment subscriber cost) t = acquire-lengths (requestOf plan moment subscriber cost) t
+turn-lengths plan (Ask moment subscriber cost) t = acquire-lengths (requestOf (only plan) moment subscriber cost) t
 turn-lengths plan (Plan slots another) t = same-lengths t
 turn-lengths plan Unreadable t = same-lengths t
 
 -- a table that is put back as it was
 pub back-same : (slots : ℕ) (t : Table) → back slots t (part slots t) ≡ t
 back-same slots t =
-    ap₂ (λ (a b : List ℕ). tableOf a b (t .newest)) (take-append-drop slots (t .ids)) (take-append-drop slots (t .tats))
+    λ k.
+    tableOf (take-append-drop slots (t .table .ids) k) (take-append-drop slots (t .numbers) k) (take-append-drop slots (t .table .tats) k)
+    (t .table .newest)
 
 -- a table of zeros
 abbrev pub zeros : ℕ → Table
-zeros slots = tableOf (replicate slots 0) (replicate slots 0) 0
+zeros slots = tableOf (replicate slots 0) (replicate slots 0) (replicate slots 0) 0
 
 -- columns that have so many slots
-pub record Room (slots : ℕ) (t : Table) : Type 0 where
-  pub in-ids : slots ≤ length (t .ids)
-  pub in-tats : slots ≤ length (t .tats)
+abbrev pub Roomy : ℕ → Table → Type 0
+Roomy slots t = Room slots (t .table .ids) (t .numbers) (t .table .tats)
 
-module _ (slots : ℕ) (t : Table) (room : Room slots t) where
-  part-ids : length (take slots (t .ids)) ≡ slots
-  part-ids = length-take-le slots (t .ids) (room .in-ids)
+module _ (slots : ℕ) (t : Table) (room : Roomy slots t) where
+  part-ids : length (take slots (t .table .ids)) ≡ slots
+  part-ids = length-take-le slots (t .table .ids) (room .in-ids)
 
-  part-tats : length (take slots (t .tats)) ≡ slots
-  part-tats = length-take-le slots (t .tats) (room .in-tats)
+  part-numbers : length (take slots (t .numbers)) ≡ slots
+  part-numbers = length-take-le slots (t .numbers) (room .in-numbers)
+
+  part-tats : length (take slots (t .table .tats)) ≡ slots
+  part-tats = length-take-le slots (t .table .tats) (room .in-tats)
 
   module _ (u : Table) (same : SameLengths u (part slots t)) where
-    ids-length : length (u .ids) ≡ slots
+    ids-length : length (u .table .ids) ≡ slots
     ids-length = same .ids ∙ part-ids
 
-    tats-length : length (u .tats) ≡ slots
+    numbers-length : length (u .numbers) ≡ slots
+    numbers-length = same .numbers ∙ part-numbers
+
+    tats-length : length (u .table .tats) ≡ slots
     tats-length = same .tats ∙ part-tats
 
     -- a table that was put back is the part again
     pub put-back : part slots (back slots t u) ≡ u
     put-back =
-        ap₂ (λ (a b : List ℕ). tableOf a b (u .newest))
-        (take-at (u .ids) (drop slots (t .ids)) slots ids-length) (take-at (u .tats) (drop slots (t .tats)) slots tats-length)
+        let ids = take-at (u .table .ids) (drop slots (t .table .ids)) slots ids-length in
+        let numbers = take-at (u .numbers) (drop slots (t .numbers)) slots numbers-length in
+        let tats = take-at (u .table .tats) (drop slots (t .table .tats)) slots tats-length in
+        λ k. tableOf (ids k) (numbers k) (tats k) (u .table .newest)
 
     -- and there is as much room as before
-    pub room-back : Room slots (back slots t u)
+    pub room-back : Roomy slots (back slots t u)
     room-back =
         record {
           in-ids = simp length-append (omega (arith, ids-length));
+          in-numbers = simp length-append (omega (arith, numbers-length));
           in-tats = simp length-append (omega (arith, tats-length));
         }
 
@@ -72,6 +81,7 @@ module _ (slots : ℕ) (t : Table) (room : Room slots t) where
   zeros-lengths =
       record {
         ids = length-replicate slots 0 ∙ sym part-ids;
+        numbers = length-replicate slots 0 ∙ sym part-numbers;
         tats = length-replicate slots 0 ∙ sym part-tats;
       }
 
@@ -80,4 +90,4 @@ module _ (slots : ℕ) (t : Table) (room : Room slots t) where
   cleared some most =
       let ok = slots-some slots (omega arith) ∙ some in
       ap (λ (s : Step Table). s .after)
-      (clear-zeros (take slots (t .ids)) (take slots (t .tats)) (t .newest) part-ids part-tats ok)
+      (clear-zeros (take slots (t .table .ids)) (take slots (t .numbers)) (take slots (t .table .tats)) (t .table .newest) part-ids part-numbers part-tats ok)

@@ -22,11 +22,11 @@ use Rattle.text_session.specs.declared.Opening.{Opening}
 use Rattle.text_session.specs.declared.Opening.the-variants.{Refused, Opened}
 use Rattle.text_session.specs.declared.Reply.the-variants.{Nothing, Numbers}
 use Rattle.text_session.specs.declared.Stage.the-variants.{First, Open}
-use Rattle.text_session.specs.Session.{textSlots, opening, turn, back, answer, unended, Lent}
+use Rattle.text_session.specs.Session.{textSlots, opening, only, turn, back, answer, unended, Lent}
 use Rattle.text_session.specs.Transcript.{run, begun, answers, transcript}
 use Rattle.text_session.specs.Stream.{State, atLf, kept, moved, after, start}
 use Rattle.text_session.specs.Laws.{OpeningLaws, AnswerLaws, TranscriptLaws, Laws}
-use Rattle.text_session.proofs.Columns.{Room, back-same, cleared, zeros}
+use Rattle.text_session.proofs.Columns.{Roomy, back-same, cleared, zeros}
 use Rattle.text_session.proofs.Streamed as streamed
 use Rattle.text_session.proofs.Turning as turning
 use Rattle.text_session.proofs.Worked as worked
@@ -57,11 +57,12 @@ of-openings =
 
 -- what a line is told
 first-opened :
-    (n : ℕ) (p : plan.Plan) (t : Table) → planOk p ≡ true → 1 ≤ n → n ≤ 1024 → Lent (t .ids) (t .tats) →
+    (n : ℕ) (p : plan.Plan) (t : Table) → planOk p ≡ true → 1 ≤ n → n ≤ 1024 → Lent (t .table .ids) (t .numbers) (t .table .tats) →
     answer First (Plan n p) t ≡ record { reply = Nothing; stage = Open p n; table = back n t (zeros n) }
 unfolding answer
 first-opened n p t ok some most lent =
-    let room : Room n t = record { in-ids = omega (arith, lent .in-ids); in-tats = omega (arith, lent .in-tats) } in
+    let room : Roomy n t =
+    record { in-ids = omega (arith, lent .in-ids); in-numbers = omega (arith, lent .in-numbers); in-tats = omega (arith, lent .in-tats) } in
     let zeroed = cleared n t room (le-leb 1 n some) (omega arith) in
     sym (turning.first-opened (Plan n p) t (slots-within n p ok some most) (sym zeroed))
 
@@ -114,7 +115,7 @@ module _ (p : plan.Plan) (t : Table) (l : Line) (ls : List Line) where
 
   ask-next :
       (m s c : ℕ) → lineCommand l ≡ Ask m s c →
-      run p t (l ∷ ls) ≡ line (acquire (requestOf p m s c) t .answer) ++ run p (acquire (requestOf p m s c) t .after) ls
+      run p t (l ∷ ls) ≡ line (acquire (requestOf (only p) m s c) t .answer) ++ run p (acquire (requestOf (only p) m s c) t .after) ls
   unfolding turn
   ask-next m s c e = next-is (Ask m s c) e
 

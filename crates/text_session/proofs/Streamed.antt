@@ -129,10 +129,10 @@ streams (b ∷ s) σ p fit h = by (eqb b lf) refl (streams s)
     by false e ih = streams-other σ p fit h b s e (ih (kept σ (b ∷ [])) (p ++ (b ∷ [])) fit (kept-holds p σ b h))
 
 pub streamed :
-    (t : Table) (text : List ℕ) → Lent (t .ids) (t .tats) →
+    (t : Table) (text : List ℕ) → Lent (t .table .ids) (t .numbers) (t .table .tats) →
     header ++ (said (start t) text ++ ending (after (start t) text)) ≡ transcript text
 unfolding transcript still rest
 streamed t text lent =
     ap (λ (l : List ℕ). header ++ l)
-    (streams text (start t) [] (record { in-ids = lent .in-ids; in-tats = lent .in-tats }) refl
+    (streams text (start t) [] lent refl
     ∙ ap (still (start t)) (unbegun (lines text)))

@@ -28,7 +28,7 @@ use Rattle.text_session.specs.declared.Stage.the-variants.{First, Open, 
 use Rattle.text_session.specs.Session.{textSlots, opening, turn, Told, part, back, first, answer, unended}
 use Rattle.text_session.specs.Transcript.{run, begun, answers}
 use Rattle.text_session.specs.Stream.{textOf}
-use Rattle.text_session.proofs.Columns.{turn-lengths, zeros, Room, put-back, room-back, zeros-lengths, cleared}
+use Rattle.text_session.proofs.Columns.{turn-lengths, zeros, Roomy, put-back, room-back, zeros-lengths, cleared}
 
 -- what is still to be said of some lines
 unfoldable pub rest : Stage → Table → List Line → List ℕ
@@ -38,8 +38,8 @@ rest Over t ls = []
 
 -- the columns have the slots that a stage needs
 abbrev pub Fit : Stage → Table → Type 0
-Fit First t = Room textSlots t
-Fit (Open plan slots) t = Room slots t
+Fit First t = Roomy textSlots t
+Fit (Open plan slots) t = Roomy slots t
 Fit Over t = Unit {0}
 
 -- what is told and left is right for what should be said, whatever lines come after
@@ -53,7 +53,7 @@ refused-right n t = record { says = λ ls. append-nil (line (refusal n)); fits =
 
 -- an open run goes on with the table that is put back
 open-right :
-    (plan : plan.Plan) (slots : ℕ) (t : Table) → Room slots t → (reply : Reply) (u : Table) → SameLengths u (part slots t) →
+    (plan : plan.Plan) (slots : ℕ) (t : Table) → Roomy slots t → (reply : Reply) (u : Table) → SameLengths u (part slots t) →
     Right (record { reply = reply; stage = Open plan slots; table = back slots t u }) (λ ls. textOf reply ++ run plan u ls)
 unfolding rest
 open-right plan slots t room reply u same =
@@ -63,14 +63,18 @@ open-right plan slots t room reply u same =
     }
 
 opened-right :
-    (plan : plan.Plan) (slots : ℕ) (t : Table) → Room textSlots t → leb 1 slots ≡ true → slots ≤ textSlots →
+    (plan : plan.Plan) (slots : ℕ) (t : Table) → Roomy textSlots t → leb 1 slots ≡ true → slots ≤ textSlots →
     Right (first (Opened plan slots) t) (begun (Opened plan slots))
 unfolding first begun textOf
 opened-right plan slots t enough some most =
-    let room : Room slots t = record { in-ids = omega (arith, enough .in-ids); in-tats = omega (arith, enough .in-tats) } in
+    let room : Roomy slots t = record {
+      in-ids = omega (arith, enough .in-ids);
+      in-numbers = omega (arith, enough .in-numbers);
+      in-tats = omega (arith, enough .in-tats);
+    } in
     rw (cleared slots t room some most) (open-right plan slots t room Nothing (zeros slots) (zeros-lengths slots t room))
 
-module _ (t : Table) (enough : Room textSlots t) where
+module _ (t : Table) (enough : Roomy textSlots t) where
   plan-right : (plan : plan.Plan) (slots : ℕ) → Right (first (opening (Plan slots plan)) t) (begun (opening (Plan slots plan)))
   unfolding opening
   plan-right plan slots = by (planOk plan) (leb 1 slots && leb slots textSlots) refl

@@ -9,7 +9,6 @@ use native.Mathlib.Omega.{arith}
 use types.Run.{OneOf}
 use denote.Enum.Declared.{tagOf}
 use lib.Dec.{leb}
-use lib.ListN.{length}
 use borrow.Author.Tests.{leb-true}
 use Rattle.rate.specs.declared.answer.Answer.{Answer}
 use Rattle.rate.specs.declared.answer.Numbers as numbers
@@ -18,6 +17,7 @@ use Rattle.rate.specs.Answer.{numbersOf}
 use Rattle.ticks.specs.Grains.{planOk}
 use Rattle.ticks.proofs.Tests.{both}
 use Rattle.table.specs.Calls.{Step}
+use Rattle.plans.specs.Plans.{Plans}
 use Rattle.table.specs.Request.{requestOf}
 use Rattle.table_gcra.specs.Table.{Table, acquire, clear}
 use Rattle.text_protocol.specs.declared.command.Command.{Command}
@@ -29,7 +29,7 @@ use Rattle.text_session.specs.declared.Opening.the-variants.{Refused, Op
 use Rattle.text_session.specs.declared.Reply.the-variants.{Nothing, Numbers}
 use Rattle.text_session.specs.declared.Stage.{Stage}
 use Rattle.text_session.specs.declared.Stage.the-variants.{First, Open, Over}
-use Rattle.text_session.specs.Session.{textSlots, opening, turn, part, back, first, other, answer, Lent, Bounded}
+use Rattle.text_session.specs.Session.{textSlots, opening, only, turn, part, back, first, other, answer, Lent, Room, Bounded}
 use Rattle.text_session.proofs.Columns.{back-same}
 
 -- the first line: it is no plan
@@ -123,20 +123,23 @@ module _ (plan : plan.Plan) (slots : ℕ) (c : Command) (t : Table) where
 
   -- it is an ask
   module _ {moment subscriber cost : ℕ} (is : c ≡ Ask moment subscriber cost) where
-    asks : turn plan c (part slots t) ≡ acquire (requestOf plan moment subscriber cost) (part slots t)
+    abbrev asked : Plans → Step Table
+    asked p = acquire (requestOf p moment subscriber cost) (part slots t)
+
+    asks : (p : Plans) → p ≡ only plan → asked p ≡ turn plan c (part slots t)
     unfolding turn
-    asks = rw is
+    asks p e = ap asked e ∙ sym (ap (λ (d : Command). turn plan d (part slots t)) is)
 
     pub other-asked :
-        (a : Answer) {m : numbers.Numbers} {u : Table} →
-        numbersOf a ≡ acquire (requestOf plan moment subscriber cost) (part slots t) .answer → m ≡ numbersOf a →
-        u ≡ acquire (requestOf plan moment subscriber cost) (part slots t) .after →
+        (p : Plans) → p ≡ only plan → (a : Answer) {m : numbers.Numbers} {u : Table} →
+        numbersOf a ≡ acquire (requestOf p moment subscriber cost) (part slots t) .answer → m ≡ numbersOf a →
+        u ≡ acquire (requestOf p moment subscriber cost) (part slots t) .after →
         record { reply = Numbers m; stage = Open plan slots; table = back slots t u } ≡ other plan slots c t
-    other-asked a says are left k =
+    other-asked p e a says are left k =
         record {
-          reply = Numbers ((are ∙ says ∙ sym (ap (λ (s : Step Table). s .answer) asks)) k);
+          reply = Numbers ((are ∙ says ∙ ap (λ (s : Step Table). s .answer) (asks p e)) k);
           stage = Open plan slots;
-          table = back slots t ((left ∙ sym (ap (λ (s : Step Table). s .after) asks)) k);
+          table = back slots t ((left ∙ ap (λ (s : Step Table). s .after) (asks p e)) k);
         }
 
 -- a line at any stage
@@ -155,12 +158,16 @@ module _ (c : Command) (t : Table) {stage : Stage} where
 
 -- the columns have the slots of an open run
 pub open-room :
-    {stage : Stage} {plan : plan.Plan} {slots : ℕ} {ids tats : List ℕ} → stage ≡ Open plan slots → Bounded stage → Lent ids tats →
-    (slots ≤ length ids) × (slots ≤ length tats)
+    {stage : Stage} {plan : plan.Plan} {slots : ℕ} {ids numbers tats : List ℕ} → stage ≡ Open plan slots → Bounded stage →
+    Lent ids numbers tats → Room slots ids numbers tats
 unfolding Bounded
 open-room e bounded lent =
     let most = subst (λ (s : Stage). Bounded s) e bounded in
-    (omega (arith, most, lent .in-ids), omega (arith, most, lent .in-tats))
+    record {
+      in-ids = omega (arith, most, lent .in-ids);
+      in-numbers = omega (arith, most, lent .in-numbers);
+      in-tats = omega (arith, most, lent .in-tats);
+    }
 
 -- a run stays within its slots
 pub bounded-first : Bounded First

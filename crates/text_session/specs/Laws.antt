@@ -7,6 +7,7 @@ use lib.ListN.{length, drop, replicate}
 use Rattle.ticks.specs.declared.plan.Plan as plan
 use Rattle.ticks.specs.Grains.{planOk}
 use Rattle.rate.specs.declared.answer.Numbers as numbers
+use Rattle.plans.specs.Plans.{plansOf}
 use Rattle.table.specs.Request.{requestOf}
 use Rattle.table_gcra.specs.Table.{Table, tableOf, acquire}
 use Rattle.text_tsv.specs.Text.{Line, lines}
@@ -46,21 +47,22 @@ pub record AnswerLaws : Type 0 where
       answer First c t ≡ record { reply = Numbers (withZeros n); stage = Over; table = t }
   -- a good one prints nothing, and clears its slots and the newest moment (document 02, Item 6)
   pub first-opened :
-      (n : ℕ) (p : plan.Plan) (t : Table) → planOk p ≡ true → 1 ≤ n → n ≤ 1024 → Lent (t .ids) (t .tats) →
+      (n : ℕ) (p : plan.Plan) (t : Table) → planOk p ≡ true → 1 ≤ n → n ≤ 1024 → Lent (t .table .ids) (t .numbers) (t .table .tats) →
       answer First (Plan n p) t
       ≡ record {
         reply = Nothing;
         stage = Open p n;
-        table = tableOf (replicate n 0 ++ drop n (t .ids)) (replicate n 0 ++ drop n (t .tats)) 0;
+        table =
+            tableOf (replicate n 0 ++ drop n (t .table .ids)) (replicate n 0 ++ drop n (t .numbers)) (replicate n 0 ++ drop n (t .table .tats)) 0;
       }
-  -- an ask is asked of the run's slots
+  -- an ask is asked of the run's slots, under the run's plan, the only one that is lent
   pub asked :
       (p : plan.Plan) (n m s c : ℕ) (t : Table) →
       answer (Open p n) (Ask m s c) t
       ≡ record {
-        reply = Numbers (acquire (requestOf p m s c) (part n t) .answer);
+        reply = Numbers (acquire (requestOf (plansOf (p ∷ []) 0) m s c) (part n t) .answer);
         stage = Open p n;
-        table = back n t (acquire (requestOf p m s c) (part n t) .after);
+        table = back n t (acquire (requestOf (plansOf (p ∷ []) 0) m s c) (part n t) .after);
       }
   -- a line that cannot be read gets 10 and four zeros, and so does a second `plan` line; the run goes on
   pub unreadable-told :
@@ -88,11 +90,11 @@ pub record TranscriptLaws : Type 0 where
   pub opened-run :
       (text : List ℕ) (l : Line) (ls : List Line) (p : plan.Plan) (n : ℕ) →
       lines text ≡ l ∷ ls → opening (lineCommand l) ≡ Opened p n →
-      transcript text ≡ header ++ run p (tableOf (replicate n 0) (replicate n 0) 0) ls
+      transcript text ≡ header ++ run p (tableOf (replicate n 0) (replicate n 0) (replicate n 0) 0) ls
   -- each line is answered and the next is taken: an ask
   pub ask-next :
       (p : plan.Plan) (t : Table) (l : Line) (ls : List Line) (m s c : ℕ) → lineCommand l ≡ Ask m s c →
-      run p t (l ∷ ls) ≡ line (acquire (requestOf p m s c) t .answer) ++ run p (acquire (requestOf p m s c) t .after) ls
+      run p t (l ∷ ls) ≡ line (acquire (requestOf (plansOf (p ∷ []) 0) m s c) t .answer) ++ run p (acquire (requestOf (plansOf (p ∷ []) 0) m s c) t .after) ls
   -- a line that cannot be read
   pub unreadable-next :
       (p : plan.Plan) (t : Table) (l : Line) (ls : List Line) → lineCommand l ≡ Unreadable →
@@ -105,7 +107,7 @@ pub record TranscriptLaws : Type 0 where
   pub none-next : (p : plan.Plan) (t : Table) → run p t [] ≡ []
   -- byte by byte it is the same
   pub streamed :
-      (t : Table) (text : List ℕ) → Lent (t .ids) (t .tats) →
+      (t : Table) (text : List ℕ) → Lent (t .table .ids) (t .numbers) (t .table .tats) →
       header ++ (said (start t) text ++ ending (after (start t) text)) ≡ transcript text
   -- however the input is cut into pieces
   pub said-append : (σ : State) (a b : List ℕ) → said σ (a ++ b) ≡ said σ a ++ said (after σ a) b

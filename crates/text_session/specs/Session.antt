@@ -1,11 +1,12 @@
 -- What a line of the text program is told, and what it leads to (document 01, 'The tabbed text').
 use Prim.Native.Nat.{ℕ, _≤_}
 use mathlib.Core.Bool.{cond, _&&_}
-use mathlib.Core.List.{List, _++_}
+use mathlib.Core.List.{List, [], _∷_, _++_}
 use lib.Dec.{leb}
 use lib.ListN.{length, take, drop}
 use Rattle.ticks.specs.declared.plan.Plan as plan
 use Rattle.ticks.specs.Grains.{planOk}
+use Rattle.plans.specs.Plans.{Plans, plansOf}
 use Rattle.table.specs.Request.{requestOf}
 use Rattle.table.specs.Calls.{Step}
 use Rattle.table_gcra.specs.Table.{Table, tableOf, acquire, clear}
@@ -31,9 +32,13 @@ opening (Plan slots plan) =
 opening (Ask moment subscriber cost) = Refused unreadable
 opening Unreadable = Refused unreadable
 
+-- the plan of a run is the only one that is lent, number 0 (document 02, Item 3)
+abbrev pub only : plan.Plan → Plans
+only plan = plansOf (plan ∷ []) 0
+
 -- any other line: an ask is asked; a line that cannot be read is answered, and so is a second `plan` line
 unfoldable pub turn : plan.Plan → Command → Table → Step Table
-turn plan (Ask moment subscriber cost) t = acquire (requestOf plan moment subscriber cost) t
+turn plan (Ask moment subscriber cost) t = acquire (requestOf (only plan) moment subscriber cost) t
 turn plan (Plan slots another) t = record { answer = refusal unreadable; after = t }
 turn plan Unreadable t = record { answer = refusal unreadable; after = t }
 
@@ -45,11 +50,14 @@ pub record Told : Type 0 where
 
 -- the first slots of the columns, and the newest moment, are the run's table
 abbrev pub part : ℕ → Table → Table
-part slots t = tableOf (take slots (t .ids)) (take slots (t .tats)) (t .newest)
+part slots t =
+    tableOf (take slots (t .table .ids)) (take slots (t .numbers)) (take slots (t .table .tats)) (t .table .newest)
 
 -- and are put back in front of the other slots
 abbrev pub back : ℕ → Table → Table → Table
-back slots t u = tableOf (u .ids ++ drop slots (t .ids)) (u .tats ++ drop slots (t .tats)) (u .newest)
+back slots t u =
+    tableOf (u .table .ids ++ drop slots (t .table .ids)) (u .numbers ++ drop slots (t .numbers)) (u .table .tats ++ drop slots (t .table .tats))
+    (u .table .newest)
 
 -- a first line that is refused ends the run; a good one clears its slots and the newest moment
 unfoldable pub first : Opening → Table → Told
@@ -77,10 +85,15 @@ unended First = Numbers (refusal unreadable)
 unended (Open plan slots) = Numbers (refusal unreadable)
 unended Over = Nothing
 
--- the columns hold as many slots as a plan may ask for
-pub record Lent (ids tats : List ℕ) : Type 0 where
-  pub in-ids : textSlots ≤ length ids
-  pub in-tats : textSlots ≤ length tats
+-- the columns hold so many slots
+pub record Room (slots : ℕ) (ids numbers tats : List ℕ) : Type 0 where
+  pub in-ids : slots ≤ length ids
+  pub in-numbers : slots ≤ length numbers
+  pub in-tats : slots ≤ length tats
+
+-- .. as many as a plan may ask for
+abbrev pub Lent : List ℕ → List ℕ → List ℕ → Type 0
+Lent ids numbers tats = Room textSlots ids numbers tats
 
 -- an open run has no more slots than a plan may ask for
 unfoldable pub Bounded : Stage → Type 0

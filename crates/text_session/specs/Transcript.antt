@@ -18,7 +18,7 @@ run plan t (l ∷ ls) = line (turn plan (lineCommand l) t .answer) ++ run plan (
 -- a first line that is refused ends the run; a good one prints nothing
 unfoldable pub begun : Opening → List Line → List ℕ
 begun (Refused n) ls = line (refusal n)
-begun (Opened plan slots) ls = run plan (tableOf (replicate slots 0) (replicate slots 0) 0) ls
+begun (Opened plan slots) ls = run plan (tableOf (replicate slots 0) (replicate slots 0) (replicate slots 0) 0) ls
 
 unfoldable pub answers : List Line → List ℕ
 answers [] = []

@@ -2,11 +2,9 @@
 // but the columns and the newest moment.
 ghost use mathlib.Core.Path.{_≡_};
 ghost use mathlib.Core.Bool.{_&&_};
-ghost use Prim.Native.Nat.{_≤_};
 ghost use lib.Dec.{leb};
-ghost use lib.ListN.{length};
 ghost use Rattle.table_gcra.specs.Table.{tableOf};
-ghost use Rattle.text_session.specs.Session.{opening, textSlots, first, other, answer, unended, Lent, Bounded, toldOf};
+ghost use Rattle.text_session.specs.Session.{opening, textSlots, first, other, answer, unended, Lent, Room, Bounded, toldOf};
 use rate::answer;
 use rate::answer::Numbers;
 use rate::answer::Reason;
@@ -72,10 +70,16 @@ fn open(command: Command) -> Opening
 }
 
 // The first line.
-fn first(command: Command, ids: &mut [u32], tats: &mut [u64], newest: &mut u64) -> Turn
-    requires { ⌜ Lent (now ids) (now tats) ⌝ }
-    ensures { λ r. ⌜ toldOf r (tableOf (now (ids .exit)) (now (tats .exit)) (now (newest .exit)))
-        ≡ first (opening command) (tableOf (now (ids .entry)) (now (tats .entry)) (now (newest .entry))) ⌝ }
+fn first(
+    command: Command,
+    ids: &mut [u32],
+    numbers: &mut [u8],
+    tats: &mut [u64],
+    newest: &mut u64,
+) -> Turn
+    requires { ⌜ Lent (now ids) (now numbers) (now tats) ⌝ }
+    ensures { λ r. ⌜ toldOf r (tableOf (now (ids .exit)) (now (numbers .exit)) (now (tats .exit)) (now (newest .exit)))
+        ≡ first (opening command) (tableOf (now (ids .entry)) (now (numbers .entry)) (now (tats .entry)) (now (newest .entry))) ⌝ }
 {
     match open(command) {
         Opening::Refused(number) => Turn {
@@ -83,7 +87,12 @@ fn first(command: Command, ids: &mut [u32], tats: &mut [u64], newest: &mut u64) 
             reply: Reply::Numbers(reply::refusal(number)),
         },
         Opening::Opened { plan, slots } => {
-            table_gcra::clear(&mut ids[..slots], &mut tats[..slots], newest);
+            table_gcra::clear(
+                &mut ids[..slots],
+                &mut numbers[..slots],
+                &mut tats[..slots],
+                newest,
+            );
             Turn {
                 stage: Stage::Open { plan, slots },
                 reply: Reply::Nothing,
@@ -98,12 +107,13 @@ fn other(
     slots: usize,
     command: Command,
     ids: &mut [u32],
+    numbers: &mut [u8],
     tats: &mut [u64],
     newest: &mut u64,
 ) -> Turn
-    requires { ⌜ (slots ≤ length (now ids)) × (slots ≤ length (now tats)) ⌝ }
-    ensures { λ r. ⌜ toldOf r (tableOf (now (ids .exit)) (now (tats .exit)) (now (newest .exit)))
-        ≡ other plan slots command (tableOf (now (ids .entry)) (now (tats .entry)) (now (newest .entry))) ⌝ }
+    requires { ⌜ Room slots (now ids) (now numbers) (now tats) ⌝ }
+    ensures { λ r. ⌜ toldOf r (tableOf (now (ids .exit)) (now (numbers .exit)) (now (tats .exit)) (now (newest .exit)))
+        ≡ other plan slots command (tableOf (now (ids .entry)) (now (numbers .entry)) (now (tats .entry)) (now (newest .entry))) ⌝ }
 {
     let Command::Ask {
         moment,
@@ -116,14 +126,17 @@ fn other(
             reply: Reply::Numbers(reply::refusal(UNREADABLE)),
         };
     };
+    let plans = [plan.limit, plan.period, plan.burst];
     let moment = Millis(moment);
     let told = table_gcra::acquire(
-        plan,
+        &plans,
         &mut ids[..slots],
+        &mut numbers[..slots],
         &mut tats[..slots],
         newest,
         moment,
         subscriber,
+        0,
         cost,
     );
     Turn {
@@ -137,17 +150,18 @@ pub fn answer(
     stage: Stage,
     command: Command,
     ids: &mut [u32],
+    numbers: &mut [u8],
     tats: &mut [u64],
     newest: &mut u64,
 ) -> Turn
-    requires { ⌜ Lent (now ids) (now tats) ⌝ }
+    requires { ⌜ Lent (now ids) (now numbers) (now tats) ⌝ }
     requires { ⌜ Bounded stage ⌝ }
-    ensures { λ r. ⌜ toldOf r (tableOf (now (ids .exit)) (now (tats .exit)) (now (newest .exit)))
-        ≡ answer stage command (tableOf (now (ids .entry)) (now (tats .entry)) (now (newest .entry))) ⌝ }
+    ensures { λ r. ⌜ toldOf r (tableOf (now (ids .exit)) (now (numbers .exit)) (now (tats .exit)) (now (newest .exit)))
+        ≡ answer stage command (tableOf (now (ids .entry)) (now (numbers .entry)) (now (tats .entry)) (now (newest .entry))) ⌝ }
 {
     match stage {
-        Stage::First => first(command, ids, tats, newest),
-        Stage::Open { plan, slots } => other(plan, slots, command, ids, tats, newest),
+        Stage::First => first(command, ids, numbers, tats, newest),
+        Stage::Open { plan, slots } => other(plan, slots, command, ids, numbers, tats, newest),
         Stage::Over => Turn {
             stage: Stage::Over,
             reply: Reply::Nothing,

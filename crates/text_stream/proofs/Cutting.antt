@@ -45,7 +45,7 @@ cut σ p q {at} {r} {line = line} {t = t} {out} {out′} m n =
     }
 
 pub text-is :
-    (text : List ℕ) (t : Table) → Lent (t .ids) (t .tats) → (s : Session) (line : List ℕ) (t′ : Table) →
+    (text : List ℕ) (t : Table) → Lent (t .table .ids) (t .numbers) (t .table .tats) → (s : Session) (line : List ℕ) (t′ : Table) →
     stateOf s line t′ ≡ after (start t) text → header ++ said (start t) text ++ endingOf s line ≡ transcript text
 text-is text t lent s line t′ leads =
     let ending-is = sym (ending-any (stateOf s line t′) noTable) ∙ ap (λ (σ : State). ending σ) leads in

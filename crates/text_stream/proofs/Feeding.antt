@@ -25,7 +25,7 @@ module _ (σ₀ : State) (piece out₀ : List ℕ) (at : ℕ) where
     pub place : w + length (said (stateOf s line t) (drop i piece)) ≡ at + length (said σ₀ piece)
     pub long-as : length out ≡ length out₀
     pub ready : Ready s line
-    pub lent : Lent (t .ids) (t .tats)
+    pub lent : Lent (t .table .ids) (t .numbers) (t .table .tats)
     pub inside : i ≤ length piece
 
 -- what a session holds is no more than is kept

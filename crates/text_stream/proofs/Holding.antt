@@ -70,7 +70,7 @@ module _ (σ : State) (r : Turn) {t : Table} (told : toldOf r t ≡ atLf σ) whe
   reply-room at {room} h = subst (λ (l : List ℕ). at + length l ≤ room) (sym (says-reply σ told)) h
 
   pub ended-moved :
-      {line out out′ : List ℕ} {at w : ℕ} → Bounded (σ .stage) → mostLine ≤ length line → Lent (t .ids) (t .tats) →
+      {line out out′ : List ℕ} {at w : ℕ} → Bounded (σ .stage) → mostLine ≤ length line → Lent (t .table .ids) (t .numbers) (t .table .tats) →
       (w ≡ at + length (textOf (r .reply))) × (out′ ≡ sets out at (textOf (r .reply))) →
       Moved (says σ lf) (moved σ lf) at (record { session = record { stage = r .stage; held = 0 }; at = w }) line t out out′
   ended-moved {line} {out} {out′} {at} {w} bounded enough lent put =
@@ -90,5 +90,11 @@ module _ (σ : State) (r : Turn) {t : Table} (told : toldOf r t ≡ atLf σ) whe
 
 -- columns of the same lengths are lent too
 pub lent-as :
-    {ids tats ids′ tats′ : List ℕ} → length ids′ ≡ length ids → length tats′ ≡ length tats → Lent ids tats → Lent ids′ tats′
-lent-as i t lent = record { in-ids = omega (arith, lent .in-ids); in-tats = omega (arith, lent .in-tats) }
+    {ids numbers tats ids′ numbers′ tats′ : List ℕ} → length ids′ ≡ length ids → length numbers′ ≡ length numbers →
+    length tats′ ≡ length tats → Lent ids numbers tats → Lent ids′ numbers′ tats′
+lent-as i n t lent =
+    record {
+      in-ids = omega (arith, lent .in-ids);
+      in-numbers = omega (arith, lent .in-numbers);
+      in-tats = omega (arith, lent .in-tats);
+    }

@@ -25,5 +25,5 @@ pub record StreamLaws : Type 0 where
       Moved (said σ (p ++ q)) (after σ (p ++ q)) at r′ line′ t′ out out″
   -- from the start to the input's end: the header, what is said of the text, and what is said at the end, are its transcript
   pub text-is :
-      (text : List ℕ) (t : Table) → Lent (t .ids) (t .tats) → (s : Session) (line : List ℕ) (t′ : Table) →
+      (text : List ℕ) (t : Table) → Lent (t .table .ids) (t .numbers) (t .table .tats) → (s : Session) (line : List ℕ) (t′ : Table) →
       stateOf s line t′ ≡ after (start t) text → header ++ said (start t) text ++ endingOf s line ≡ transcript text

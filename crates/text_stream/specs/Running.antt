@@ -22,7 +22,7 @@ started = record { stage = First; held = 0 }
 
 -- what is said at the input's end is the same whatever the table holds, so here it has no slots
 abbrev pub noTable : Table
-noTable = tableOf [] [] 0
+noTable = tableOf [] [] [] 0
 
 abbrev pub endingOf : Session → List ℕ → List ℕ
 endingOf s line = ending (stateOf s line noTable)
@@ -39,4 +39,4 @@ pub record Moved (text : List ℕ) (σ : State) (at : ℕ) (r : Fed) (line : Lis
   pub at-is : r .at ≡ at + length text
   pub out-is : out′ ≡ sets out at text
   pub ready : Ready (r .session) line
-  pub lent : Lent (t .ids) (t .tats)
+  pub lent : Lent (t .table .ids) (t .numbers) (t .table .tats)

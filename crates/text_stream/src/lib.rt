@@ -92,26 +92,27 @@ fn end_line(
     rest: &[u8],
     line: &mut [u8],
     ids: &mut [u32],
+    numbers: &mut [u8],
     tats: &mut [u64],
     newest: &mut u64,
     out: &mut [u8],
     at: usize,
 ) -> Fed
     requires { ⌜ Ready session (now line) ⌝ }
-    requires { ⌜ Lent (now ids) (now tats) ⌝ }
-    requires { ⌜ at + length (says (kept (stateOf session (now line) (tableOf (now ids) (now tats) (now newest))) (now rest)) lf)
+    requires { ⌜ Lent (now ids) (now numbers) (now tats) ⌝ }
+    requires { ⌜ at + length (says (kept (stateOf session (now line) (tableOf (now ids) (now numbers) (now tats) (now newest))) (now rest)) lf)
         ≤ length (now out) ⌝ }
     ensures { λ r. ⌜ Moved
         (says (kept (stateOf session (now (line .entry))
-        (tableOf (now (ids .entry)) (now (tats .entry)) (now (newest .entry)))) (now (rest .entry))) lf)
+        (tableOf (now (ids .entry)) (now (numbers .entry)) (now (tats .entry)) (now (newest .entry)))) (now (rest .entry))) lf)
         (moved (kept (stateOf session (now (line .entry))
-        (tableOf (now (ids .entry)) (now (tats .entry)) (now (newest .entry)))) (now (rest .entry))) lf)
-        at r (now (line .exit)) (tableOf (now (ids .exit)) (now (tats .exit)) (now (newest .exit)))
+        (tableOf (now (ids .entry)) (now (numbers .entry)) (now (tats .entry)) (now (newest .entry)))) (now (rest .entry))) lf)
+        at r (now (line .exit)) (tableOf (now (ids .exit)) (now (numbers .exit)) (now (tats .exit)) (now (newest .exit)))
         (now (out .entry)) (now (out .exit)) ⌝ }
 {
     let command = ended(line, session.held, rest);
     let stage = session.stage;
-    let turn = text_session::answer(stage, command, ids, tats, newest);
+    let turn = text_session::answer(stage, command, ids, numbers, tats, newest);
     let stage = turn.stage;
     let reply = turn.reply;
     Fed {
@@ -126,21 +127,22 @@ pub fn feed(
     piece: &[u8],
     line: &mut [u8],
     ids: &mut [u32],
+    numbers: &mut [u8],
     tats: &mut [u64],
     newest: &mut u64,
     out: &mut [u8],
     at: usize,
 ) -> Fed
     requires { ⌜ Ready session (now line) ⌝ }
-    requires { ⌜ Lent (now ids) (now tats) ⌝ }
-    requires { ⌜ at + length (said (stateOf session (now line) (tableOf (now ids) (now tats) (now newest))) (now piece))
+    requires { ⌜ Lent (now ids) (now numbers) (now tats) ⌝ }
+    requires { ⌜ at + length (said (stateOf session (now line) (tableOf (now ids) (now numbers) (now tats) (now newest))) (now piece))
         ≤ length (now out) ⌝ }
     ensures { λ r. ⌜ Moved
         (said (stateOf session (now (line .entry))
-        (tableOf (now (ids .entry)) (now (tats .entry)) (now (newest .entry)))) (now (piece .entry)))
+        (tableOf (now (ids .entry)) (now (numbers .entry)) (now (tats .entry)) (now (newest .entry)))) (now (piece .entry)))
         (after (stateOf session (now (line .entry))
-        (tableOf (now (ids .entry)) (now (tats .entry)) (now (newest .entry)))) (now (piece .entry)))
-        at r (now (line .exit)) (tableOf (now (ids .exit)) (now (tats .exit)) (now (newest .exit)))
+        (tableOf (now (ids .entry)) (now (numbers .entry)) (now (tats .entry)) (now (newest .entry)))) (now (piece .entry)))
+        at r (now (line .exit)) (tableOf (now (ids .exit)) (now (numbers .exit)) (now (tats .exit)) (now (newest .exit)))
         (now (out .entry)) (now (out .exit)) ⌝ }
 {
     let mut s = session;
@@ -156,7 +158,7 @@ pub fn feed(
                 at: w,
             };
         }
-        let fed = end_line(s, &piece[i..end], line, ids, tats, newest, out, w);
+        let fed = end_line(s, &piece[i..end], line, ids, numbers, tats, newest, out, w);
         s = fed.session;
         w = fed.at;
         i = end + 1;

@@ -50,7 +50,7 @@ module _ (text : List ℕ) (t : Table) {s : Session} (e : s ≡ started) (line :
     table-after = ap (λ (σ : State). σ .table) leads
 
     pub text-after :
-        Lent (t .ids) (t .tats) → header ++ said (stateOf s line t) text ++ endingOf s′ line′ ≡ transcript text
+        Lent (t .table .ids) (t .numbers) (t .table .tats) → header ++ said (stateOf s line t) text ++ endingOf s′ line′ ≡ transcript text
     text-after lent =
         ap (λ (σ : State). header ++ said σ text ++ endingOf s′ line′) start-is ∙ stream-laws .text-is text t lent s′ line′ t′ leads
 
@@ -67,23 +67,28 @@ module _ (text : List ℕ) (t : Table) (out : List ℕ) where
   abbrev as-it-was : Transcribed → Result
   as-it-was answer = record { answer = answer; left = lentOf t out }
 
-  pub short-ids : length (t .ids) < textSlots → transcribed text t out ≡ as-it-was ShortTable
+  pub short-ids : length (t .table .ids) < textSlots → transcribed text t out ≡ as-it-was ShortTable
   unfolding transcribed
   short-ids h = rw (lt-leb _ _ h)
 
-  module _ (i : textSlots ≤ length (t .ids)) where
-    pub short-tats : length (t .tats) < textSlots → transcribed text t out ≡ as-it-was ShortTable
+  module _ (i : textSlots ≤ length (t .table .ids)) where
+    pub short-numbers : length (t .numbers) < textSlots → transcribed text t out ≡ as-it-was ShortTable
     unfolding transcribed
-    short-tats h = rw (le-leb _ _ i, lt-leb _ _ h)
+    short-numbers h = rw (le-leb _ _ i, lt-leb _ _ h)
 
-    module _ (j : textSlots ≤ length (t .tats)) where
-      pub short-out : length out < room text → transcribed text t out ≡ as-it-was ShortOutput
+    module _ (n : textSlots ≤ length (t .numbers)) where
+      pub short-tats : length (t .table .tats) < textSlots → transcribed text t out ≡ as-it-was ShortTable
       unfolding transcribed
-      short-out h = rw (le-leb _ _ i, le-leb _ _ j, lt-leb _ _ h)
+      short-tats h = rw (le-leb _ _ i, le-leb _ _ n, lt-leb _ _ h)
 
-      pub long-enough : room text ≤ length out → transcribed text t out ≡ written text t out
-      unfolding transcribed
-      long-enough h = rw (le-leb _ _ i, le-leb _ _ j, le-leb _ _ h)
+      module _ (j : textSlots ≤ length (t .table .tats)) where
+        pub short-out : length out < room text → transcribed text t out ≡ as-it-was ShortOutput
+        unfolding transcribed
+        short-out h = rw (le-leb _ _ i, le-leb _ _ n, le-leb _ _ j, lt-leb _ _ h)
+
+        pub long-enough : room text ≤ length out → transcribed text t out ≡ written text t out
+        unfolding transcribed
+        long-enough h = rw (le-leb _ _ i, le-leb _ _ n, le-leb _ _ j, le-leb _ _ h)
 
 -- the room, as a division finds it
 module _ (text out : List ℕ) {n : ℕ} (counted : n ≡ endings text) where

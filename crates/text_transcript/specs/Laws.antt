@@ -11,15 +11,16 @@ use Rattle.text_transcript.specs.Whole.{transcribed, lentOf}
 
 pub record TranscriptLaws (text : List ℕ) (t : Table) (out : List ℕ) : Type 0 where
   -- with fewer than 1,024 slots in a column nothing is touched
-  pub short-ids : length (t .ids) < 1024 → transcribed text t out ≡ record { answer = ShortTable; left = lentOf t out }
-  pub short-tats : length (t .tats) < 1024 → transcribed text t out ≡ record { answer = ShortTable; left = lentOf t out }
+  pub short-ids : length (t .table .ids) < 1024 → transcribed text t out ≡ record { answer = ShortTable; left = lentOf t out }
+  pub short-numbers : length (t .numbers) < 1024 → transcribed text t out ≡ record { answer = ShortTable; left = lentOf t out }
+  pub short-tats : length (t .table .tats) < 1024 → transcribed text t out ≡ record { answer = ShortTable; left = lentOf t out }
   -- nor with an output that is shorter than the header's 35 bytes, and 105 for each line that ends and for one that does not
   pub short-output :
-      1024 ≤ length (t .ids) → 1024 ≤ length (t .tats) → length out < 35 + 105 + 105 * endings text →
+      1024 ≤ length (t .table .ids) → 1024 ≤ length (t .numbers) → 1024 ≤ length (t .table .tats) → length out < 35 + 105 + 105 * endings text →
       transcribed text t out ≡ record { answer = ShortOutput; left = lentOf t out }
   -- otherwise the transcript stands at the output's start and the bytes after it stay; the table is as the text leaves it
   pub whole :
-      1024 ≤ length (t .ids) → 1024 ≤ length (t .tats) → 35 + 105 + 105 * endings text ≤ length out →
+      1024 ≤ length (t .table .ids) → 1024 ≤ length (t .numbers) → 1024 ≤ length (t .table .tats) → 35 + 105 + 105 * endings text ≤ length out →
       transcribed text t out
       ≡ record {
         answer = Written (length (transcript text));

@@ -40,6 +40,6 @@ written text t out =
 -- a refusal leaves everything as it was
 unfoldable pub transcribed : List ℕ → Table → List ℕ → Result
 transcribed text t out =
-    cond (leb textSlots (length (t .ids)) && leb textSlots (length (t .tats)))
+    cond (leb textSlots (length (t .table .ids)) && (leb textSlots (length (t .numbers)) && leb textSlots (length (t .table .tats))))
     (cond (leb (room text) (length out)) (written text t out) (record { answer = ShortOutput; left = lentOf t out }))
     (record { answer = ShortTable; left = lentOf t out })

@@ -52,13 +52,20 @@ fn endings(text: &[u8]) -> usize
 }
 
 // The whole run over lent columns and output that are large enough.
-fn run(text: &[u8], ids: &mut [u32], tats: &mut [u64], newest: &mut u64, out: &mut [u8]) -> usize
-    requires { ⌜ Lent (now ids) (now tats) ⌝ }
+fn run(
+    text: &[u8],
+    ids: &mut [u32],
+    numbers: &mut [u8],
+    tats: &mut [u64],
+    newest: &mut u64,
+    out: &mut [u8],
+) -> usize
+    requires { ⌜ Lent (now ids) (now numbers) (now tats) ⌝ }
     requires { ⌜ room (now text) ≤ length (now out) ⌝ }
     ensures { λ r. ⌜ (r ≡ length (transcript (now (text .entry))))
         × (now (out .exit) ≡ sets (now (out .entry)) 0 (transcript (now (text .entry)))) ⌝ }
-    ensures { λ r. ⌜ tableOf (now (ids .exit)) (now (tats .exit)) (now (newest .exit))
-        ≡ after (start (tableOf (now (ids .entry)) (now (tats .entry)) (now (newest .entry)))) (now (text .entry)) .table ⌝ }
+    ensures { λ r. ⌜ tableOf (now (ids .exit)) (now (numbers .exit)) (now (tats .exit)) (now (newest .exit))
+        ≡ after (start (tableOf (now (ids .entry)) (now (numbers .entry)) (now (tats .entry)) (now (newest .entry)))) (now (text .entry)) .table ⌝ }
 {
     let mut line = [0u8; MOST_LINE];
     let at = reply::put_header(out);
@@ -67,6 +74,7 @@ fn run(text: &[u8], ids: &mut [u32], tats: &mut [u64], newest: &mut u64, out: &m
         text,
         &mut line,
         ids,
+        numbers,
         tats,
         newest,
         out,
@@ -79,17 +87,21 @@ fn run(text: &[u8], ids: &mut [u32], tats: &mut [u64], newest: &mut u64, out: &m
 pub fn transcribe(
     text: &[u8],
     ids: &mut [u32],
+    numbers: &mut [u8],
     tats: &mut [u64],
     newest: &mut u64,
     out: &mut [u8],
 ) -> Transcribed
     ensures { λ r. ⌜ r ≡ transcribed (now (text .entry))
-        (tableOf (now (ids .entry)) (now (tats .entry)) (now (newest .entry))) (now (out .entry)) .answer ⌝ }
-    ensures { λ r. ⌜ lentOf (tableOf (now (ids .exit)) (now (tats .exit)) (now (newest .exit))) (now (out .exit))
+        (tableOf (now (ids .entry)) (now (numbers .entry)) (now (tats .entry)) (now (newest .entry))) (now (out .entry)) .answer ⌝ }
+    ensures { λ r. ⌜ lentOf (tableOf (now (ids .exit)) (now (numbers .exit)) (now (tats .exit)) (now (newest .exit))) (now (out .exit))
         ≡ transcribed (now (text .entry))
-        (tableOf (now (ids .entry)) (now (tats .entry)) (now (newest .entry))) (now (out .entry)) .left ⌝ }
+        (tableOf (now (ids .entry)) (now (numbers .entry)) (now (tats .entry)) (now (newest .entry))) (now (out .entry)) .left ⌝ }
 {
     if ids.len() < TEXT_SLOTS {
+        return Transcribed::ShortTable;
+    }
+    if numbers.len() < TEXT_SLOTS {
         return Transcribed::ShortTable;
     }
     if tats.len() < TEXT_SLOTS {
@@ -101,5 +113,5 @@ pub fn transcribe(
     if (out.len() - (HEADER + MOST_REPLY)) / MOST_REPLY < endings(text) {
         return Transcribed::ShortOutput;
     }
-    Transcribed::Written(run(text, ids, tats, newest, out))
+    Transcribed::Written(run(text, ids, numbers, tats, newest, out))
 }

@@ -8,9 +8,18 @@ use Rattle.c_gcra.proofs.railcadence_gcra_acquire.Statement.{statement}
 use Rattle.c_gcra.proofs.railcadence_gcra_acquire.Tie as tie
 
 returns : tie.Need-returns
-returns c = (c .five .ensures ∙ ap (λ (n : Numbers). five n) (c .before .to-numbers .ensures ∙ c .before .before .before .before .before .before .acquire .ensures .0), c .before .before .before .before .before .before .acquire .ensures .1)
+returns c =
+    let called = c .before .before .before .before .before .before .before .before .acquire .ensures in
+    (c .five .ensures ∙ ap (λ (n : Numbers). five n) (c .before .to-numbers .ensures ∙ called .0), called .1)
 
 pub railcadence-gcra-acquire-spec : {M : Type 1} → statement M
 railcadence-gcra-acquire-spec =
     tie.close
-    (tie.spec (λ c κs. search needs) (λ c κs. search needs) (λ c κs. search needs) (λ c. search needs) (λ c. search needs) returns)
+    (tie.spec
+    (λ c κs. search needs)
+    (λ c κs. search needs)
+    (λ c κs. search needs)
+    (λ c. search needs)
+    (λ c. search needs)
+    (λ c. search needs)
+    returns)

@@ -8,10 +8,10 @@ use Rattle.c_text.proofs.railcadence_transcribe.Tie as tie
 
 returns : tie.Need-returns
 returns c =
-    let done = c .before .before .before .before .before .before .before .transcribe .ensures in
+    let done = c .before .before .before .before .before .before .before .before .before .transcribe .ensures in
     (c .two .ensures ∙ ap two (done .0), done .1)
 
 pub railcadence-transcribe-spec : {M : Type 1} → statement M
 railcadence-transcribe-spec =
     tie.close
-    (tie.spec (λ c κs. search needs) (λ c κs. search needs) (λ c. search needs) (λ c. search needs) (λ c. search needs) returns)
+    (tie.spec (λ c κs. search needs) (λ c κs. search needs) (λ c. search needs) (λ c. search needs) (λ c. search needs) (λ c. search needs) returns)

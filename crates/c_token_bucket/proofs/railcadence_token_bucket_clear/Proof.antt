@@ -1,16 +1,16 @@
 -- `c_token_bucket::railcadence_token_bucket_clear` meets its contract: the numbers of the answer, and the columns as the call left them.
 -- Assumes nothing.
+use borrow.Author.Needs.{needs}
 use mathlib.Core.Path.{ap, _∙_}
 use Rattle.rate.specs.declared.answer.Numbers.{Numbers}
 use Rattle.c_answer.specs.Five.{five}
-use borrow.Author.Needs.{needs}
-use Rattle.c_token_bucket.proofs.railcadence_token_bucket_clear.Statement.{
-  statement,
-}
+use Rattle.c_token_bucket.proofs.railcadence_token_bucket_clear.Statement.{statement}
 use Rattle.c_token_bucket.proofs.railcadence_token_bucket_clear.Tie as tie
 
 returns : tie.Need-returns
-returns c = (c .five .ensures ∙ ap (λ (n : Numbers). five n) (c .before .to-numbers .ensures ∙ c .before .before .before .before .before .before .before .before .clear .ensures .0), c .before .before .before .before .before .before .before .before .clear .ensures .1)
+returns c =
+    let called = c .before .before .before .before .before .before .before .before .before .before .clear .ensures in
+    (c .five .ensures ∙ ap (λ (n : Numbers). five n) (c .before .to-numbers .ensures ∙ called .0), called .1)
 
 pub railcadence-token-bucket-clear-spec : {M : Type 1} → statement M
 railcadence-token-bucket-clear-spec =
@@ -19,6 +19,7 @@ railcadence-token-bucket-clear-spec =
     (λ c κs. search needs)
     (λ c κs. search needs)
     (λ c κs. search needs)
+    (λ c. search needs)
     (λ c. search needs)
     (λ c. search needs)
     (λ c. search needs)

@@ -1,12 +1,10 @@
 -- `c_token_bucket::railcadence_token_bucket_peek` meets its contract: the numbers of the answer.
 -- Assumes nothing.
+use borrow.Author.Needs.{needs}
 use mathlib.Core.Path.{ap, _∙_}
 use Rattle.rate.specs.declared.answer.Numbers.{Numbers}
 use Rattle.c_answer.specs.Five.{five}
-use borrow.Author.Needs.{needs}
-use Rattle.c_token_bucket.proofs.railcadence_token_bucket_peek.Statement.{
-  statement,
-}
+use Rattle.c_token_bucket.proofs.railcadence_token_bucket_peek.Statement.{statement}
 use Rattle.c_token_bucket.proofs.railcadence_token_bucket_peek.Tie as tie
 
 returns : tie.Need-returns

@@ -21,7 +21,7 @@ use Rattle.text_io.proofs.answer.Tie as tie
 -- the state before the piece, the bytes that are fed, and that a line for each of them fits
 abbrev before : tie.Start → State
 before s =
-    stateOf (s .args .session) (now (s .args .line)) (tableOf (now (s .args .ids)) (now (s .args .tats)) (now (s .args .newest)))
+    stateOf (s .args .session) (now (s .args .line)) (tableOf (now (s .args .ids)) (now (s .args .numbers)) (now (s .args .tats)) (now (s .args .newest)))
 
 abbrev bytes : tie.Start → List ℕ
 bytes s = take (s .args .n) (now (s .args .piece))
@@ -31,19 +31,19 @@ fits s = omega (arith, length-take (s .args .n) (now (s .args .piece)), s .pre .
 
 slice-aggregate-feed : tie.Need-slice-aggregate-feed
 slice-aggregate-feed c =
-    let start = c .before .before .before .before .before .before in
+    let start = c .before .before .before .before .before .before .before in
     sym (length-take-le _ (now (start .args .piece)) (omega (arith, start .pre .1 .1 .1)))
 
 feed-requires : tie.Need-feed-requires
 feed-requires c κs =
-    let start = c .before .before .before .before .before .before .before .before .before .before .before in
+    let start = c .before .before .before .before .before .before .before .before .before .before .before .before .before in
     (start .pre .0, (start .pre .1 .0, answers-fit (before start) _ refl (omega (arith, fits start))))
 
 write-requires : tie.Need-write-requires
 write-requires c κs =
     let out = c .before .before .before .before in
-    let fed = out .before .before .before .before .before .before .before in
-    let start = fed .before .before .before .before .before .before .before .before .before .before .before .before in
+    let fed = out .before .before .before .before .before .before .before .before .before in
+    let start = fed .before .before .before .before .before .before .before .before .before .before .before .before .before .before in
     let within : fed .feed .result .at ≤ length (now (start .args .out)) =
     answers-fit (before start) _ (fed .feed .ensures .at-is) (omega (arith, fits start)) in
     omega (arith, out .out .given)
@@ -51,8 +51,8 @@ write-requires c κs =
 returns : tie.Need-returns
 unfolding Onwards
 returns c =
-    let fed = c .before .before .before .before .before .before .before .before .before .before .before .before .before in
-    let start = fed .before .before .before .before .before .before .before .before .before .before .before .before in
+    let fed = c .before .before .before .before .before .before .before .before .before .before .before .before .before .before .before in
+    let start = fed .before .before .before .before .before .before .before .before .before .before .before .before .before .before in
     let moved = fed .feed .ensures in
     let counted = c .before .write .ensures (c .if1 .taken) in
     let room = answers-fit (before start) (bytes start) refl (fits start) in
@@ -77,7 +77,9 @@ answer-spec =
     (λ c. search needs)
     (λ c. search needs)
     (λ c. search needs)
+    (λ c. search needs)
     returns
+    (λ c. search needs)
     (λ c. search needs)
     (λ c. search needs)
     (λ c. search needs)

@@ -10,31 +10,28 @@ use Rattle.text_session.proofs.answer.Tie as tie
 
 other-requires : tie.Need-other-requires
 other-requires c κs =
-    let p4 = c .before .before .before .before in
-    let start = p4 .before .before .before .before in
-    open-room (p4 .stage .given .1) (start .pre .1) (start .pre .0)
+    let known = c .before .before .before .before .before in
+    let start = known .before .before .before .before .before in
+    open-room (known .stage .given .1) (start .pre .1) (start .pre .0)
 
 returns : tie.Need-returns
 returns c =
-    let p4 = c .before .before .before .before in
-    let p8 = p4 .before .before .before .before in
-    let S = p8 .before .before .before .before .args in
-    let t = tableOf (now (S .ids)) (now (S .tats)) (now (S .newest)) in
-    p4 .first .ensures ∙ answer-first (S .command) t (p8 .enum-told .given .1)
+    let called = c .before .before .before .before .before .before in
+    let told = called .before .before .before .before .before in
+    let S = told .before .before .before .before .before .args in
+    called .first .ensures ∙ answer-first (S .command) (tableOf (now (S .ids)) (now (S .numbers)) (now (S .tats)) (now (S .newest))) (told .enum-told .given .1)
 
 returns-2 : tie.Need-returns-2
 returns-2 c =
-    let p4 = c .before .before .before .before in
-    let p9 = p4 .before .before .before .before .before in
-    let S = p9 .before .before .before .before .args in
-    let t = tableOf (now (S .ids)) (now (S .tats)) (now (S .newest)) in
-    p4 .other .ensures ∙ answer-open (S .command) t (p9 .stage .given .1)
+    let called = c .before .before .before .before .before .before in
+    let known = called .before .before .before .before .before .before in
+    let S = known .before .before .before .before .before .args in
+    called .other .ensures ∙ answer-open (S .command) (tableOf (now (S .ids)) (now (S .numbers)) (now (S .tats)) (now (S .newest))) (known .stage .given .1)
 
 returns-3 : tie.Need-returns-3
 returns-3 c =
-    let S = c .before .before .before .before .args in
-    let t = tableOf (now (S .ids)) (now (S .tats)) (now (S .newest)) in
-    answer-over (S .command) t (c .enum-told2 .given .1)
+    let S = c .before .before .before .before .before .args in
+    answer-over (S .command) (tableOf (now (S .ids)) (now (S .numbers)) (now (S .tats)) (now (S .newest))) (c .enum-told2 .given .1)
 
 pub answer-spec : {M : Type 1} → statement M
 answer-spec =
@@ -47,7 +44,9 @@ answer-spec =
     (λ c. search needs)
     (λ c. search needs)
     (λ c. search needs)
+    (λ c. search needs)
     returns
+    (λ c. search needs)
     (λ c. search needs)
     (λ c. search needs)
     returns-2

@@ -2,55 +2,59 @@
 -- Assumes nothing.
 use mathlib.Core.Path.{sym, _∙_}
 use native.Mathlib.Omega.{arith}
+use Prim.Native.Nat.{_≤_}
 use lib.Seq.{length-take-le}
 use denote.Ref.{now}
 use Rattle.table_gcra.specs.Table.{tableOf}
+use Rattle.text_session.specs.Session.{textSlots}
 use Rattle.text_session.proofs.Turning.{opened-most, first-refused, first-opened}
 use borrow.Author.Needs.{needs}
 use Rattle.text_session.proofs.first.Statement.{statement}
 use Rattle.text_session.proofs.first.Tie as tie
 
+-- a plan that opens a run names no more slots than there is room for
+most : (c : tie.After-known-told2) → c .before .plan .given .0 .1 .0 ≤ textSlots
+most c = opened-most (c .before .before .before .before .before .before .before .args .command) (sym (c .before .before .before .«open» .ensures) ∙ c .before .plan .given .1)
+
 slice-relend-prefix-clear : tie.Need-slice-relend-prefix-clear
-slice-relend-prefix-clear c =
-    let p3 = c .before .before .before in
-    let p6 = p3 .before .before .before in
-    omega (arith, p6 .pre .in-ids, opened-most (p6 .args .command) (sym (p3 .«open» .ensures) ∙ c .before .plan .given .1))
+slice-relend-prefix-clear c = omega (arith, c .before .before .before .before .before .before .before .pre .in-ids, most c)
 
 slice-aggregate-clear : tie.Need-slice-aggregate-clear
 slice-aggregate-clear c =
-    let p4 = c .before .before .before .before in
-    let p7 = p4 .before .before .before in
-    let most = opened-most (p7 .args .command) (sym (p4 .«open» .ensures) ∙ c .before .before .plan .given .1) in
-    sym (length-take-le _ (now (p7 .args .ids)) (omega (arith, p7 .pre .in-ids, most)))
+    let S = c .before .before .before .before .before .before .before .before in
+    sym (length-take-le _ (now (S .args .ids)) (omega (arith, S .pre .in-ids, most (c .before))))
 
 slice-relend-prefix-clear-2 : tie.Need-slice-relend-prefix-clear-2
-slice-relend-prefix-clear-2 c =
-    let p4 = c .before .before .before .before in
-    let p7 = p4 .before .before .before in
-    omega (arith, p7 .pre .in-tats, opened-most (p7 .args .command) (sym (p4 .«open» .ensures) ∙ c .before .before .plan .given .1))
+slice-relend-prefix-clear-2 c = omega (arith, c .before .before .before .before .before .before .before .before .pre .in-numbers, most (c .before))
 
 slice-aggregate-clear-2 : tie.Need-slice-aggregate-clear-2
 slice-aggregate-clear-2 c =
-    let p5 = c .before .before .before .before .before in
-    let p8 = p5 .before .before .before in
-    let most = opened-most (p8 .args .command) (sym (p5 .«open» .ensures) ∙ c .before .before .before .plan .given .1) in
-    sym (length-take-le _ (now (p8 .args .tats)) (omega (arith, p8 .pre .in-tats, most)))
+    let S = c .before .before .before .before .before .before .before .before .before in
+    sym (length-take-le _ (now (S .args .numbers)) (omega (arith, S .pre .in-numbers, most (c .before .before))))
+
+slice-relend-prefix-clear-3 : tie.Need-slice-relend-prefix-clear-3
+slice-relend-prefix-clear-3 c = omega (arith, c .before .before .before .before .before .before .before .before .before .pre .in-tats, most (c .before .before))
+
+slice-aggregate-clear-3 : tie.Need-slice-aggregate-clear-3
+slice-aggregate-clear-3 c =
+    let S = c .before .before .before .before .before .before .before .before .before .before in
+    sym (length-take-le _ (now (S .args .tats)) (omega (arith, S .pre .in-tats, most (c .before .before .before))))
 
 returns : tie.Need-returns
 returns c =
-    let p4 = c .before .before .before .before in
-    let S = p4 .before .before .before .args in
-    let comes = sym (p4 .«open» .ensures) ∙ c .before .before .number .given .1 in
-    first-refused (S .command) (tableOf (now (S .ids)) (now (S .tats)) (now (S .newest))) comes (c .refusal .ensures)
+    let opened = c .before .before .before .before in
+    let S = opened .before .before .before .before .args in
+    let comes = sym (opened .«open» .ensures) ∙ c .before .before .number .given .1 in
+    first-refused (S .command) (tableOf (now (S .ids)) (now (S .numbers)) (now (S .tats)) (now (S .newest))) comes (c .refusal .ensures)
 
 returns-2 : tie.Need-returns-2
 returns-2 c =
-    let p4 = c .before .before .before .before in
-    let p9 = p4 .before .before .before .before .before in
-    let p11 = p9 .before .before in
-    let S = p11 .before .before .before .args in
-    let comes = sym (p11 .«open» .ensures) ∙ p9 .plan .given .1 in
-    first-opened (S .command) (tableOf (now (S .ids)) (now (S .tats)) (now (S .newest))) comes (p4 .clear .ensures .1)
+    let called = c .before .before .before .before .before .before in
+    let named = called .before .before .before .before .before .before in
+    let opened = named .before .before in
+    let S = opened .before .before .before .before .args in
+    let comes = sym (opened .«open» .ensures) ∙ named .plan .given .1 in
+    first-opened (S .command) (tableOf (now (S .ids)) (now (S .numbers)) (now (S .tats)) (now (S .newest))) comes (called .clear .ensures .1)
 
 pub first-spec : {M : Type 1} → statement M
 first-spec =
@@ -64,8 +68,11 @@ first-spec =
     slice-aggregate-clear
     slice-relend-prefix-clear-2
     slice-aggregate-clear-2
+    slice-relend-prefix-clear-3
+    slice-aggregate-clear-3
     (λ c κs. search needs)
     returns
+    (λ c. search needs)
     (λ c. search needs)
     (λ c. search needs)
     returns-2)

@@ -14,17 +14,17 @@ use Rattle.text_stream.proofs.feed.Statement.{statement}
 use Rattle.text_stream.proofs.feed.Tie as tie
 
 abbrev Inv-loop : tie.InvT-loop
-Inv-loop piece line₀ ids₀ tats₀ newest₀ out₀ at s₀ w₀ i₀ line ids tats newest out s w i =
-    (Going (stateOf s₀ line₀ (tableOf ids₀ tats₀ newest₀)) piece out₀ at s line (tableOf ids tats newest) out w i)
-    × ((length line ≡ length line₀) × ((length ids ≡ length ids₀) × (length tats ≡ length tats₀)))
+Inv-loop piece line₀ ids₀ numbers₀ tats₀ newest₀ out₀ at s₀ w₀ i₀ line ids numbers tats newest out s w i =
+    (Going (stateOf s₀ line₀ (tableOf ids₀ numbers₀ tats₀ newest₀)) piece out₀ at s line (tableOf ids numbers tats newest) out w i)
+    × ((length line ≡ length line₀) × ((length ids ≡ length ids₀) × ((length numbers ≡ length numbers₀) × (length tats ≡ length tats₀))))
 
 abbrev μ-loop : tie.MeasureT-loop
-μ-loop piece line₀ ids₀ tats₀ newest₀ out₀ at s₀ w₀ i₀ line ids tats newest out s w i = length piece - i
+μ-loop piece line₀ ids₀ numbers₀ tats₀ newest₀ out₀ at s₀ w₀ i₀ line ids numbers tats newest out s w i = length piece - i
 
 loop-holds : tie.Need-loop-holds Inv-loop μ-loop
 loop-holds c =
-    let start = c .before .before .before .before .before in
-    (record { leads = refl; writes = refl; place = refl; long-as = refl; ready = start .pre .0; lent = start .pre .1 .0; inside = omega arith }, (refl, (refl, refl)))
+    let start = c .before .before .before .before .before .before in
+    (record { leads = refl; writes = refl; place = refl; long-as = refl; ready = start .pre .0; lent = start .pre .1 .0; inside = omega arith }, (refl, (refl, (refl, refl))))
 
 find-requires : tie.Need-find-requires Inv-loop μ-loop
 find-requires c κs = c .loop .inv .0 .inside
@@ -39,7 +39,7 @@ part-hold-end : tie.Need-part-hold-end Inv-loop μ-loop
 part-hold-end c =
     let p2 = c .before .before in
     let p3 = p2 .before in
-    end-within (now (p3 .before .before .before .before .before .before .args .piece)) (p3 .loop .i) (p2 .find .ensures) (p3 .loop .inv .0 .inside)
+    end-within (now (p3 .before .before .before .before .before .before .before .args .piece)) (p3 .loop .i) (p2 .find .ensures) (p3 .loop .inv .0 .inside)
 
 hold-requires : tie.Need-hold-requires Inv-loop μ-loop
 hold-requires c κs = let g = c .before .before .before .before .loop .inv .0 in (g .ready .held-within, g .ready .line-enough)
@@ -55,24 +55,24 @@ part-end-line-end c = omega arith
 
 end-line-requires : tie.Need-end-line-requires Inv-loop μ-loop
 end-line-requires c κs =
-    let p6 = c .before .before .before .before .before .before in
+    let p6 = c .before .before .before .before .before .before .before in
     let p8 = p6 .before .before in
-    let start = p8 .before .before .before .before .before .before in
+    let start = p8 .before .before .before .before .before .before .before in
     let g = p8 .loop .inv .0 in
     (g .ready, (g .lent, going-room g (p6 .before .find .ensures) (p6 .if1 .left) (start .pre .1 .1)))
 
 -- where the test found an LF, of a line that has been answered
 abbrev ends : tie.After-end-line Inv-loop μ-loop → tie.Else1 Inv-loop μ-loop
-ends c = c .before .before .before .before .before .before .before
+ends c = c .before .before .before .before .before .before .before .before
 
 add-i : tie.Need-add-i Inv-loop μ-loop
 add-i c =
-    let test = ends (c .before .before .before .before .before .before .before .before .before) in
+    let test = ends (c .before .before .before .before .before .before .before .before .before .before .before) in
     omega (arith, test .if1 .left)
 
 loop-less : tie.Need-loop-less Inv-loop μ-loop
 loop-less c =
-    let test = ends (c .before .before .before .before .before .before .before .before .before) in
+    let test = ends (c .before .before .before .before .before .before .before .before .before .before .before) in
     omega (arith, test .if1 .left, test .before .find .ensures)
 
 loop-again : tie.Need-loop-again Inv-loop μ-loop
@@ -80,12 +80,13 @@ loop-again c =
     let p4 = c .before .before .before .before in
     let p6 = p4 .before .before in
     let p8 = p6 .before .before in
-    let p9 = p8 .before in
-    let test = ends p9 in
+    let p10 = p8 .before .before in
+    let p11 = p10 .before in
+    let test = ends p11 in
     let found = test .before in
     let g = found .before .loop .inv in (
-      going-next (g .0) (found .find .ensures) (test .if1 .left) (p9 .end-line .ensures),
-      (p8 .line2 .given ∙ g .1 .0, (p6 .ids .given ∙ g .1 .1 .0, p4 .tats .given ∙ g .1 .1 .1)),
+      going-next (g .0) (found .find .ensures) (test .if1 .left) (p11 .end-line .ensures),
+      (p10 .line2 .given ∙ g .1 .0, (p8 .ids .given ∙ g .1 .1 .0, (p6 .numbers .given ∙ g .1 .1 .1 .0, p4 .tats .given ∙ g .1 .1 .1 .1))),
     )
 
 same-length : tie.Need-same-length Inv-loop μ-loop
@@ -95,10 +96,13 @@ same-length-2 : tie.Need-same-length-2 Inv-loop μ-loop
 same-length-2 c = c .before .before .before .before .before .before .before .loop .inv .1 .1 .0
 
 same-length-3 : tie.Need-same-length-3 Inv-loop μ-loop
-same-length-3 c = c .before .before .before .before .before .before .before .loop .inv .1 .1 .1
+same-length-3 c = c .before .before .before .before .before .before .before .loop .inv .1 .1 .1 .0
 
 same-length-4 : tie.Need-same-length-4 Inv-loop μ-loop
-same-length-4 c = c .before .before .before .before .before .before .before .loop .inv .0 .long-as
+same-length-4 c = c .before .before .before .before .before .before .before .loop .inv .1 .1 .1 .1
+
+same-length-5 : tie.Need-same-length-5 Inv-loop μ-loop
+same-length-5 c = c .before .before .before .before .before .before .before .loop .inv .0 .long-as
 
 returns : tie.Need-returns Inv-loop μ-loop
 returns c =
@@ -130,4 +134,5 @@ feed-spec =
     same-length-2
     same-length-3
     same-length-4
+    same-length-5
     returns)

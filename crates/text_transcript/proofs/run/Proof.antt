@@ -15,17 +15,17 @@ use Rattle.text_transcript.proofs.run.Tie as tie
 
 put-header-requires : tie.Need-put-header-requires
 put-header-requires c κs =
-    let p5 = c .before .before .before .before .before in
+    let p5 = c .before .before .before .before .before .before in
     header-fits (now (p5 .args .text)) (now (p5 .args .out)) (p5 .pre .1)
 
 feed-requires : tie.Need-feed-requires
 feed-requires c κs =
-    let p5 = c .before .before .before .before .before in
+    let p5 = c .before .before .before .before .before .before in
     let p8 = p5 .before .before .before in
-    let p14 = p8 .before .before .before .before .before .before in
+    let p14 = p8 .before .before .before .before .before .before .before in
     let S = p14 .args in
     let text = now (S .text) in
-    let t = tableOf (now (S .ids)) (now (S .tats)) (now (S .newest)) in
+    let t = tableOf (now (S .ids)) (now (S .numbers)) (now (S .tats)) (now (S .newest)) in
     let out = now (S .out) in
     let σ = stateOf (p5 .start .result) (replicate 128 0) t in
     let head = header-put out (p8 .put-header .ensures .0) (p8 .put-header .ensures .1) in
@@ -33,13 +33,13 @@ feed-requires c κs =
 
 finish-requires : tie.Need-finish-requires
 finish-requires c κs =
-    let p10 = c .before .before .before .before .before .before .before .before .before .before in
-    let p16 = p10 .before .before .before .before .before .before in
+    let p10 = c .before .before .before .before .before .before .before .before .before .before .before .before in
+    let p16 = p10 .before .before .before .before .before .before .before in
     let p19 = p16 .before .before .before in
-    let p25 = p19 .before .before .before .before .before .before in
+    let p25 = p19 .before .before .before .before .before .before .before in
     let S = p25 .args in
     let text = now (S .text) in
-    let t = tableOf (now (S .ids)) (now (S .tats)) (now (S .newest)) in
+    let t = tableOf (now (S .ids)) (now (S .numbers)) (now (S .tats)) (now (S .newest)) in
     let out = now (S .out) in
     let σ = stateOf (p16 .start .result) (replicate 128 0) t in
     let head = header-put out (p19 .put-header .ensures .0) (p19 .put-header .ensures .1) in
@@ -49,13 +49,13 @@ finish-requires c κs =
 
 returns : tie.Need-returns
 returns c =
-    let p13 = c .before .before .before .before .before .before .before .before .before .before .before .before .before in
-    let p19 = p13 .before .before .before .before .before .before in
+    let p13 = c .before .before .before .before .before .before .before .before .before .before .before .before .before .before .before in
+    let p19 = p13 .before .before .before .before .before .before .before in
     let p22 = p19 .before .before .before in
-    let p28 = p22 .before .before .before .before .before .before in
+    let p28 = p22 .before .before .before .before .before .before .before in
     let S = p28 .args in
     let text = now (S .text) in
-    let t = tableOf (now (S .ids)) (now (S .tats)) (now (S .newest)) in
+    let t = tableOf (now (S .ids)) (now (S .numbers)) (now (S .tats)) (now (S .newest)) in
     let out = now (S .out) in
     let σ = stateOf (p19 .start .result) (replicate 128 0) t in
     let head = header-put out (p22 .put-header .ensures .0) (p22 .put-header .ensures .1) in
@@ -79,6 +79,7 @@ run-spec =
     feed-requires
     (λ c. search needs)
     finish-requires
+    (λ c. search needs)
     (λ c. search needs)
     (λ c. search needs)
     (λ c. search needs)
