@@ -1,8 +1,9 @@
-//! Document 01, 'The decision' and 'When the gate says no', on one record. Checks 2, 4, 9 and 11, which need seats or the
-//! newest moment, are the table's.
+//! Document 01, 'The decision' and 'When the gate says no', on one record under one plan. Checks 2, 4, 9, 11 and 12, which need
+//! seats, the newest moment or another plan, are the table's.
 
-use crate::checks;
+use crate::checks::Look;
 use crate::plan::{div_up, Plan, LAST_MOMENT};
+use crate::plans::Plans;
 
 /// Number, left, reset and wait.
 #[derive(Clone, Copy, Debug, PartialEq, Eq)]
@@ -154,19 +155,13 @@ pub fn denied(plan: &Plan, moment: u128, debt: u128, cost: u128) -> Verdict {
     }
 }
 
-/// What a look says once checks 1, 2, 3, 11 and 4 are passed.
+/// What a look says of a record that is possible.
 pub fn report<R: Record>(plan: &Plan, moment: u128, record: R) -> Verdict {
-    if record.impossible(plan, moment) {
-        return refusal(7);
-    }
     settled(plan, moment, record.debt(plan, moment))
 }
 
-/// What an ask says once checks 1, 2, 3, 11, 4, 5 and 6 are passed, and the record afterwards.
+/// What an ask says of a record that is possible, and the record afterwards.
 pub fn judge<R: Record>(plan: &Plan, moment: u128, record: R, cost: u128) -> (Verdict, R) {
-    if record.impossible(plan, moment) {
-        return (refusal(7), record);
-    }
     match record.spend(plan, moment, cost) {
         Some(next) => (settled(plan, moment, next.debt(plan, moment)), next),
         None => {
@@ -176,19 +171,33 @@ pub fn judge<R: Record>(plan: &Plan, moment: u128, record: R, cost: u128) -> (Ve
     }
 }
 
+/// A look at this moment on a list of one plan, by somebody whom only checks 1 and 3 can stop.
+fn anybody(plans: &Plans, moment: u128) -> Look<'_> {
+    Look {
+        plans,
+        plan: 0,
+        usable: true,
+        newest: 0,
+        moment,
+        subscriber: 1,
+    }
+}
+
 /// A look at one record: checks 1, 3 and 7, else left and reset under number 0.
 pub fn look<R: Record>(plan: &Plan, moment: u128, record: R) -> Verdict {
-    match checks::of_look(plan, true, 0, moment, 1) {
-        Some(number) => refusal(number),
-        None => report(plan, moment, record),
+    match anybody(&Plans::one(*plan), moment).checked() {
+        Err(number) => refusal(number),
+        Ok(plan) if record.impossible(plan, moment) => refusal(7),
+        Ok(plan) => report(plan, moment, record),
     }
 }
 
 /// An ask on one record: checks 1, 3, 5, 6, 7 and 8 or 13, and the record afterwards.
 pub fn ask<R: Record>(plan: &Plan, moment: u128, record: R, cost: u128) -> (Verdict, R) {
-    match checks::of_ask(plan, true, 0, moment, 1, cost) {
-        Some(number) => (refusal(number), record),
-        None => judge(plan, moment, record, cost),
+    match anybody(&Plans::one(*plan), moment).asking(cost) {
+        Err(number) => (refusal(number), record),
+        Ok(plan) if record.impossible(plan, moment) => (refusal(7), record),
+        Ok(plan) => judge(plan, moment, record, cost),
     }
 }
 

@@ -3,10 +3,16 @@
 
 use crate::decision::{Bucket, Paced};
 use crate::plan::Plan;
+use crate::plans::Plans;
 use crate::table::{Answer, Stored, Table};
 
 pub fn plan() -> Plan {
     Plan::new(3, 1000, 2)
+}
+
+/// That plan alone, with number 0.
+pub fn plans() -> Plans {
+    Plans::one(plan())
 }
 
 /// Moment, subscriber, cost; and the line of output.
@@ -57,8 +63,10 @@ fn play<R: Stored>(table: &mut Table<R>, call: &str) -> String {
     let numbers = parts.map(|word| word.parse().expect("a number of 32 bits"));
     let numbers: Vec<u32> = numbers.collect();
     words(match (name, numbers.as_slice()) {
-        (Some("acquire"), &[moment, who, cost]) => table.acquire(&plan(), moment as u64, who, cost),
-        (Some("peek"), &[moment, who]) => table.peek(&plan(), moment as u64, who),
+        (Some("acquire"), &[moment, who, cost]) => {
+            table.acquire(&plans(), moment as u64, who, 0, cost)
+        }
+        (Some("peek"), &[moment, who]) => table.peek(&plans(), moment as u64, who, 0),
         (Some("clear"), []) => table.clear(),
         _ => panic!("no call: {call}"),
     })

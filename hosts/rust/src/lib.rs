@@ -1,4 +1,4 @@
-//! A second implementation of document 01, written from the document alone and sharing nothing with the proved code:
+//! A second implementation of documents 01 and 02, written from the documents alone and sharing nothing with the proved code:
 //! naive, in 128 bits, so that no sum or product of 64-bit inputs can overflow. The tests compare the proved code with it.
 
 pub mod book;
@@ -8,5 +8,6 @@ pub mod decision;
 mod example;
 pub mod http;
 pub mod plan;
+pub mod plans;
 pub mod table;
 pub mod text;

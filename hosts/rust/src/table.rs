@@ -1,9 +1,11 @@
-//! Document 01, 'Seats', with document 02's newest moment (Item 6): ask (`acquire`), look (`peek`) and clear over a table of
-//! slots. The columns are vectors of any lengths, as a host could lend them, and the newest moment any number.
+//! Document 01, 'Seats', with document 02's newest moment (Item 6) and several plans (Item 3): ask (`acquire`), look (`peek`) and
+//! clear over a table of slots. The columns are vectors of any lengths, as a host could lend them, and the newest moment and the
+//! plan numbers any numbers.
 
-use crate::checks::{self, MOST_SLOTS};
+use crate::checks::{Look, MOST_SLOTS};
 use crate::decision::{judge, refusal, report, Bucket, Paced, Record, Verdict};
 use crate::plan::Plan;
+use crate::plans::Plans;
 use std::marker::PhantomData;
 
 /// Number, subscriber, left, reset and wait.
@@ -54,20 +56,28 @@ impl Stored for Bucket {
     }
 }
 
-/// The ids, the columns of the record in the order of `Stored::COLUMNS`, and the newest moment at which anything was admitted.
+/// The ids, the numbers of the slots' plans, the columns of the record in the order of `Stored::COLUMNS`, and the newest moment at
+/// which anything was admitted.
 #[derive(Clone, Debug, PartialEq, Eq)]
 pub struct Table<R> {
     pub ids: Vec<u32>,
+    pub plan_numbers: Vec<u8>,
     pub columns: Vec<Vec<u64>>,
     pub newest: u64,
     kind: PhantomData<R>,
 }
 
 impl<R: Stored> Table<R> {
-    pub fn new(ids: Vec<u32>, columns: Vec<Vec<u64>>, newest: u64) -> Table<R> {
+    pub fn new(
+        ids: Vec<u32>,
+        plan_numbers: Vec<u8>,
+        columns: Vec<Vec<u64>>,
+        newest: u64,
+    ) -> Table<R> {
         assert_eq!(columns.len(), R::COLUMNS.len(), "the number of columns");
         Table {
             ids,
+            plan_numbers,
             columns,
             newest,
             kind: PhantomData,
@@ -76,30 +86,33 @@ impl<R: Stored> Table<R> {
 
     /// A table as a clear leaves it.
     pub fn cleared(slots: usize) -> Table<R> {
-        Table::new(vec![0; slots], vec![vec![0; slots]; R::COLUMNS.len()], 0)
+        let columns = vec![vec![0; slots]; R::COLUMNS.len()];
+        Table::new(vec![0; slots], vec![0; slots], columns, 0)
     }
 
-    pub fn acquire(&mut self, plan: &Plan, moment: u64, subscriber: u32, cost: u32) -> Answer {
-        let (moment, newest) = (moment as u128, self.newest as u128);
-        let (asked_for, cost) = (subscriber as u128, cost as u128);
-        let stopped = checks::of_ask(plan, self.usable(), newest, moment, asked_for, cost);
-        let verdict = match stopped {
-            Some(number) => refusal(number),
-            None => self.decide(plan, moment, subscriber, cost),
+    pub fn acquire(
+        &mut self,
+        plans: &Plans,
+        moment: u64,
+        subscriber: u32,
+        plan: u32,
+        cost: u32,
+    ) -> Answer {
+        let (look, cost) = (self.look(plans, moment, subscriber, plan), cost as u128);
+        let verdict = match look.asking(cost) {
+            Err(number) => refusal(number),
+            Ok(asked) => self.decide(&look, asked, cost),
         };
         answer(subscriber, verdict)
     }
 
-    pub fn peek(&self, plan: &Plan, moment: u64, subscriber: u32) -> Answer {
-        let (moment, newest) = (moment as u128, self.newest as u128);
-        let stopped = checks::of_look(plan, self.usable(), newest, moment, subscriber as u128);
-        let verdict = match stopped {
-            Some(number) => refusal(number),
-            None => report(
-                plan,
-                moment,
-                self.record(plan, moment, self.own(subscriber)),
-            ),
+    pub fn peek(&self, plans: &Plans, moment: u64, subscriber: u32, plan: u32) -> Answer {
+        let look = self.look(plans, moment, subscriber, plan);
+        let own = self.own(subscriber);
+        let standing = |asked| Ok((asked, self.standing(&look, asked, own)?));
+        let verdict = match look.checked().and_then(standing) {
+            Err(number) => refusal(number),
+            Ok((asked, record)) => report(asked, look.moment, record),
         };
         answer(subscriber, verdict)
     }
@@ -111,6 +124,7 @@ impl<R: Stored> Table<R> {
             return answer(0, refusal(2));
         }
         self.ids.fill(0);
+        self.plan_numbers.fill(0);
         for column in &mut self.columns {
             column.fill(0);
         }
@@ -118,17 +132,33 @@ impl<R: Stored> Table<R> {
         [0; 5]
     }
 
-    /// An ask that passed the checks: only an admission writes, and only in its own slot and the newest moment.
-    fn decide(&mut self, plan: &Plan, moment: u128, subscriber: u32, cost: u128) -> Verdict {
-        let own = self.own(subscriber);
-        let Some(slot) = own.or_else(|| self.lowest_free(plan, moment)) else {
+    fn look<'a>(&self, plans: &'a Plans, moment: u64, subscriber: u32, plan: u32) -> Look<'a> {
+        Look {
+            plans,
+            plan,
+            usable: self.usable(),
+            newest: self.newest as u128,
+            moment: moment as u128,
+            subscriber,
+        }
+    }
+
+    /// An ask that passed the checks up to 6: only an admission writes, and only in its own slot and the newest moment.
+    fn decide(&mut self, look: &Look, asked: &Plan, cost: u128) -> Verdict {
+        let own = self.own(look.subscriber);
+        let record = match self.standing(look, asked, own) {
+            Err(number) => return refusal(number),
+            Ok(record) => record,
+        };
+        let Some(slot) = own.or_else(|| self.lowest_free(look)) else {
             return refusal(9);
         };
-        let (verdict, next) = judge(plan, moment, self.record(plan, moment, own), cost);
+        let (verdict, next) = judge(asked, look.moment, record, cost);
         if verdict.number == 0 {
-            self.ids[slot] = subscriber;
+            self.ids[slot] = look.subscriber;
+            self.plan_numbers[slot] = u8::try_from(look.plan).expect("one of at most 16");
             next.store(&mut self.columns, slot);
-            self.newest = word(moment);
+            self.newest = word(look.moment);
         }
         verdict
     }
@@ -136,7 +166,9 @@ impl<R: Stored> Table<R> {
     /// Columns of one length, which is within the limits of a table.
     fn usable(&self) -> bool {
         let slots = self.ids.len();
-        (1..=MOST_SLOTS).contains(&slots) && self.columns.iter().all(|c| c.len() == slots)
+        (1..=MOST_SLOTS).contains(&slots)
+            && self.plan_numbers.len() == slots
+            && self.columns.iter().all(|c| c.len() == slots)
     }
 
     /// The lowest slot that carries the subscriber.
@@ -144,234 +176,41 @@ impl<R: Stored> Table<R> {
         self.ids.iter().position(|&id| id == subscriber)
     }
 
-    fn lowest_free(&self, plan: &Plan, moment: u128) -> Option<usize> {
-        let free = |slot| R::load(&self.columns, slot).is_free(plan, moment);
-        (0..self.ids.len()).find(|&slot| self.ids[slot] == 0 || free(slot))
+    /// The plan whose number a slot keeps, if it is lent.
+    fn kept<'a>(&self, look: &Look<'a>, slot: usize) -> Option<&'a Plan> {
+        look.plans.numbered(self.plan_numbers[slot] as u32)
     }
 
-    fn record(&self, plan: &Plan, moment: u128, own: Option<usize>) -> R {
-        match own {
-            Some(slot) => R::load(&self.columns, slot),
-            None => R::fresh(plan, moment),
+    /// Whether a slot that isn't empty is free goes by its own plan; one that is unknown makes it unfree.
+    fn lowest_free(&self, look: &Look) -> Option<usize> {
+        let owes_nothing = |slot, plan| R::load(&self.columns, slot).is_free(plan, look.moment);
+        let free = |slot| {
+            let plan = self.kept(look, slot);
+            self.ids[slot] == 0 || plan.is_some_and(|plan| owes_nothing(slot, plan))
+        };
+        (0..self.ids.len()).find(|&slot| free(slot))
+    }
+
+    /// The record by which the subscriber is judged under the plan asked for; or 7, which goes by the plan of its slot, or 12. Who
+    /// owes nothing and comes under another plan is treated as having no record.
+    fn standing(&self, look: &Look, asked: &Plan, own: Option<usize>) -> Result<R, u128> {
+        let fresh = R::fresh(asked, look.moment);
+        let Some(slot) = own else { return Ok(fresh) };
+        let record = R::load(&self.columns, slot);
+        let Some(kept) = self.kept(look, slot) else {
+            return Err(7);
+        };
+        if record.impossible(kept, look.moment) {
+            Err(7)
+        } else if self.plan_numbers[slot] as u32 == look.plan {
+            Ok(record)
+        } else if record.debt(kept, look.moment) > 0 {
+            Err(12)
+        } else {
+            Ok(fresh)
         }
     }
 }
 
 #[cfg(test)]
-mod tests {
-    use super::*;
-    use crate::example::{plan, LAST_LINES, LINES};
-    use std::fmt::Debug;
-
-    /// Plays document 01's lines on one slot; `after` has the slot (id and record) after each admission, which is the newest.
-    fn example<R: Stored>(after: &[(usize, &[u64])]) {
-        let mut table = Table::<R>::cleared(1);
-        let mut row = (0, vec![0; R::COLUMNS.len()], 0);
-        for (line, &(moment, subscriber, cost, expected)) in LINES.iter().enumerate() {
-            assert_eq!(table.acquire(&plan(), moment, subscriber, cost), expected);
-            if let Some((_, record)) = after.iter().find(|(admitted, _)| *admitted == line + 1) {
-                row = (subscriber, record.to_vec(), moment);
-            }
-            assert_eq!(table.ids, [row.0], "after line {}", line + 1);
-            assert_eq!(table.columns.concat(), row.1, "after line {}", line + 1);
-            assert_eq!(table.newest, row.2, "after line {}", line + 1);
-        }
-    }
-
-    /// Lines 1, 2, 5 and 8 are admitted. A denial that wrote the refilled level (error 4) would show after line 4.
-    #[test]
-    fn document_01_example() {
-        example::<Paced>(&[(1, &[4000]), (2, &[5000]), (5, &[6000]), (8, &[8000])]);
-        example::<Bucket>(&[
-            (1, &[1000, 1000]),
-            (2, &[0, 1000]),
-            (5, &[2, 1334]),
-            (8, &[0, 2000]),
-        ]);
-    }
-
-    fn number<R: Stored>(
-        slots: usize,
-        plan: Plan,
-        moment: u64,
-        subscriber: u32,
-        cost: u32,
-    ) -> u128 {
-        Table::<R>::cleared(slots).acquire(&plan, moment, subscriber, cost)[0]
-    }
-
-    fn further<R: Stored>() {
-        assert_eq!(number::<R>(1, Plan::new(1_000_000, 1000, 2), 0, 7, 1), 0);
-        assert_eq!(number::<R>(1, Plan::new(1_000_001, 1000, 2), 0, 7, 1), 1);
-        assert_eq!(number::<R>(1, Plan::new(3, 1000, 0), 0, 7, 1), 1);
-        assert_eq!(number::<R>(1, plan(), 4_398_046_511_103, 7, 1), 0);
-        assert_eq!(number::<R>(1, plan(), 4_398_046_511_104, 7, 1), 3);
-        assert_eq!(number::<R>(65_535, plan(), 0, 7, 1), 0);
-        assert_eq!(number::<R>(65_536, plan(), 0, 7, 1), 2);
-        assert_eq!(number::<R>(0, plan(), 0, 7, 1), 2);
-        assert_eq!(number::<R>(1, plan(), 0, 0, 0), 4);
-        let whole_burst = Table::<R>::cleared(1).acquire(&plan(), 1000, 7, 2);
-        assert_eq!(whole_burst, [0, 7, 0, 1667, 0]);
-        let unknown = Table::<R>::cleared(1).peek(&plan(), 1000, 7);
-        assert_eq!(unknown, [0, 7, 2, 1000, 0]);
-    }
-
-    #[test]
-    fn document_01_further() {
-        further::<Paced>();
-        further::<Bucket>();
-    }
-
-    fn steady<R: Stored>() -> usize {
-        let (plan, mut table) = (Plan::new(10, 1000, 10), Table::<R>::cleared(1));
-        let answers = (0..=3000).map(|moment| table.acquire(&plan, moment, 7, 1));
-        answers.filter(|answer| answer[0] == 0).count()
-    }
-
-    /// Error 2: the tolerance of a whole burst tested before the cost would count 41.
-    #[test]
-    fn document_001_counts_40() {
-        assert_eq!(steady::<Paced>(), 40);
-        assert_eq!(steady::<Bucket>(), 40);
-    }
-
-    /// Error 1, the interval taken as 333 ms, would admit a cost of 1 every 333 ms for ever. By the rule the debt is k
-    /// grains before ask k (1000 a unit, 999 drained between two), and more than 1000 is too much.
-    fn every_333_ms<R: Stored>() {
-        let mut table = Table::<R>::cleared(1);
-        for k in 0..=1000 {
-            assert_eq!(table.acquire(&plan(), 333 * k, 7, 1)[0], 0, "ask {k}");
-        }
-        let denied = table.acquire(&plan(), 333 * 1001, 7, 1);
-        assert_eq!(denied, [8, 7, 0, 333 * 1001 + 334, 1]);
-    }
-
-    #[test]
-    fn the_interval_is_not_rounded() {
-        every_333_ms::<Paced>();
-        every_333_ms::<Bucket>();
-    }
-
-    /// Error 5, and the bounds of number 7: at moment 1000, m is 3000 and a full bucket 2000.
-    #[test]
-    fn an_impossible_record_is_no_wait() {
-        for (tat, asked, seen) in [
-            (5000, [8, 7, 0, 1667, 334], [0, 7, 0, 1667, 0]),
-            (5001, [7, 7, 0, 0, 0], [7, 7, 0, 0, 0]),
-            (u64::MAX, [7, 7, 0, 0, 0], [7, 7, 0, 0, 0]),
-        ] {
-            let before = Table::<Paced>::new(vec![7], vec![vec![tat]], 1000);
-            let mut table = before.clone();
-            assert_eq!(table.peek(&plan(), 1000, 7), seen);
-            assert_eq!(table.acquire(&plan(), 1000, 7, 1), asked);
-            assert_eq!(table, before);
-        }
-        for (level, last) in [(2001, 1000), (2000, 1001)] {
-            let mut table = Table::<Bucket>::new(vec![7], vec![vec![level], vec![last]], 0);
-            assert_eq!(table.acquire(&plan(), 1000, 7, 1), [7, 7, 0, 0, 0]);
-        }
-    }
-
-    /// Two slots carry 7 and the lower one is its own, though slot 0 is free; 8 gets the lowest free slot, which is the
-    /// empty one whatever its TAT; and 9 (error 6) the one with a TAT of exactly m.
-    #[test]
-    fn slots_are_taken_from_the_lowest() {
-        let tats = vec![u64::MAX, 3001, 3000, 3000];
-        let mut table = Table::<Paced>::new(vec![0, 7, 7, 5], vec![tats], 0);
-        assert_eq!(table.acquire(&plan(), 1000, 7, 1), [0, 7, 0, 1334, 0]);
-        assert_eq!(table.columns[0], [u64::MAX, 4001, 3000, 3000]);
-        assert_eq!(table.acquire(&plan(), 1000, 8, 1), [0, 8, 1, 1334, 0]);
-        assert_eq!(table.ids, [8, 7, 7, 5]);
-        assert_eq!(table.acquire(&plan(), 1000, 9, 2), [0, 9, 0, 1667, 0]);
-        assert_eq!(table.ids, [8, 7, 9, 5]);
-        assert_eq!(table.columns[0], [4000, 4001, 5000, 3000]);
-    }
-
-    /// Document 02, Item 6: a millisecond below the newest moment gets 11, whoever asks for whatever, and changes nothing; the
-    /// newest moment itself passes, and so does everything after a clear.
-    fn below_the_newest<R: Stored + Debug + PartialEq>() {
-        let mut table = Table::<R>::cleared(2);
-        assert_eq!(table.acquire(&plan(), 2000, 7, 2)[0], 0);
-        let before = table.clone();
-        for (subscriber, cost) in [(7, 1), (8, 1), (0, 1), (8, 0), (8, 3)] {
-            let early = [11, subscriber as u128, 0, 0, 0];
-            assert_eq!(table.acquire(&plan(), 1999, subscriber, cost), early);
-            assert_eq!(table.peek(&plan(), 1999, subscriber), early);
-        }
-        assert_eq!(table.peek(&plan(), 2000, 8), [0, 8, 2, 2000, 0]);
-        assert_eq!(table.acquire(&plan(), 2600, 7, 2)[0], 8);
-        assert_eq!(table, before); // neither a look nor a denial is an admission
-        assert_eq!(table.acquire(&plan(), 2000, 8, 1), [0, 8, 1, 2334, 0]);
-        assert_eq!(table.clear(), [0; 5]);
-        assert_eq!(table.acquire(&plan(), 0, 7, 1), [0, 7, 1, 334, 0]);
-    }
-
-    #[test]
-    fn document_02_item_6() {
-        below_the_newest::<Paced>();
-        below_the_newest::<Bucket>();
-    }
-
-    /// A stored newest moment beyond the clock stops every moment within it, until a clear; 3 goes before.
-    #[test]
-    fn a_newest_moment_beyond_the_clock() {
-        for newest in [4_398_046_511_104, u64::MAX] {
-            let mut table = Table::<Paced>::new(vec![0], vec![vec![0]], newest);
-            for moment in [0, 4_398_046_511_103] {
-                assert_eq!(table.acquire(&plan(), moment, 7, 1), [11, 7, 0, 0, 0]);
-                assert_eq!(table.peek(&plan(), moment, 7), [11, 7, 0, 0, 0]);
-            }
-            assert_eq!(table.acquire(&plan(), 4_398_046_511_104, 7, 1)[0], 3);
-            assert_eq!(table.newest, newest);
-            assert_eq!(table.clear(), [0; 5]);
-            assert_eq!(table.acquire(&plan(), 0, 7, 1)[0], 0);
-        }
-    }
-
-    /// Document 02, Item 13: nothing is written under 13, as under 8. A peek, which asks for nothing, knows no 13: it reports
-    /// a reset beyond the clock.
-    fn the_end_of_the_clock<R: Stored + Debug + PartialEq>() {
-        let mut table = Table::<R>::cleared(2);
-        for (moment, subscriber, cost, expected) in LAST_LINES {
-            let before = table.clone();
-            assert_eq!(table.acquire(&plan(), moment, subscriber, cost), expected);
-            assert_eq!(table == before, expected[0] != 0, "{expected:?}");
-        }
-        let owes = [0, 8, 0, 4_398_046_511_437, 0];
-        assert_eq!(table.peek(&plan(), 4_398_046_511_103, 8), owes);
-    }
-
-    /// A wait longer than the clock gets 13 at its first moment too: 2,678,400,000 ms for each unit.
-    fn longer_than_the_clock<R: Stored>() {
-        let plan = Plan::new(1, 2_678_400_000, 1_000_000);
-        let mut table = Table::<R>::cleared(1);
-        let spent = table.acquire(&plan, 0, 7, 1_000_000);
-        assert_eq!(spent, [0, 7, 0, 2_678_400_000_000_000, 0]);
-        let units_1642 = [8, 7, 0, 2_678_400_000_000_000, 4_397_932_800_000];
-        assert_eq!(table.acquire(&plan, 0, 7, 1642), units_1642);
-        assert_eq!(table.acquire(&plan, 0, 7, 1643), [13, 7, 0, 0, 0]);
-        assert_eq!(table.acquire(&plan, 0, 7, 1_000_000), [13, 7, 0, 0, 0]);
-        assert_eq!(table.acquire(&plan, 4_397_932_800_000, 7, 1642)[0], 0);
-    }
-
-    #[test]
-    fn document_02_item_13() {
-        the_end_of_the_clock::<Paced>();
-        the_end_of_the_clock::<Bucket>();
-        longer_than_the_clock::<Paced>();
-        longer_than_the_clock::<Bucket>();
-    }
-
-    #[test]
-    fn a_clear_zeroes_all_or_touches_nothing() {
-        let mut table = Table::<Bucket>::new(vec![7, 8], vec![vec![1, 2], vec![3, 4]], 5);
-        assert_eq!(table.clear(), [0; 5]);
-        assert_eq!(table, Table::cleared(2));
-        let unequal = Table::<Bucket>::new(vec![7, 8], vec![vec![1, 2], vec![3]], 5);
-        let mut table = unequal.clone();
-        assert_eq!(table.clear(), [2, 0, 0, 0, 0]);
-        assert_eq!(table.acquire(&plan(), 1000, 7, 1), [2, 7, 0, 0, 0]);
-        assert_eq!(table.peek(&plan(), 1000, 7), [2, 7, 0, 0, 0]);
-        assert_eq!(table, unequal);
-    }
-}
+mod tests;

@@ -3,6 +3,7 @@
 
 use crate::decision::Paced;
 use crate::plan::Plan;
+use crate::plans::Plans;
 use crate::table::{Answer, Table};
 
 const HEADER: &[u8] = b"outcome\tsubscriber\tleft\treset\twait\n";
@@ -26,9 +27,9 @@ enum Line {
     },
 }
 
-/// What a good first line begins.
+/// What a good first line begins, under the one plan that it names, which has number 0.
 struct Run {
-    plan: Plan,
+    plans: Plans,
     table: Table<Paced>,
 }
 
@@ -74,7 +75,7 @@ fn begin(first: &[u8]) -> Result<Run, u128> {
         return Err(2);
     }
     Ok(Run {
-        plan,
+        plans: Plans::one(plan),
         table: Table::cleared(slots as usize),
     })
 }
@@ -87,7 +88,7 @@ impl Run {
                 moment,
                 subscriber,
                 cost,
-            }) => self.table.acquire(&self.plan, moment, subscriber, cost),
+            }) => self.table.acquire(&self.plans, moment, subscriber, 0, cost),
             Some(Line::Plan { .. }) | None => [UNREADABLE, 0, 0, 0, 0],
         }
     }
@@ -215,7 +216,7 @@ mod tests {
         let lines = "plan 2 3 1000 2\nask 1000 7 1\nask 2000 8 2\nask 2000 9 1\n";
         let left = play(&tabbed(lines)).table.expect("a run");
         let (ids, tats) = (vec![8, 9], vec![8000, 7000]);
-        assert_eq!(left, Table::new(ids, vec![tats], 2000));
+        assert_eq!(left, Table::new(ids, vec![0; 2], vec![tats], 2000));
         for refused in ["", "plan 0 3 1000 2\n", "plan 2 3 1000 2", "ask 1000 7 1\n"] {
             assert!(play(&tabbed(refused)).table.is_none(), "{refused:?}");
         }

@@ -4,6 +4,7 @@
 use model::book::Book;
 use model::decision::{Bucket, Paced};
 use model::plan::Plan;
+use model::plans::Plans;
 use model::table::{Answer, Table};
 
 const LAST: u64 = 4_398_046_511_103;
@@ -32,7 +33,7 @@ impl Spent {
             plan,
             paced: Table::cleared(1),
             bucket: Table::cleared(1),
-            book: Book::new(plan, 1),
+            book: Book::new(Plans::one(plan), 1),
         };
         assert_eq!(spent.asked(moment, plan.burst as u32)[0], 0);
         spent
@@ -40,9 +41,10 @@ impl Spent {
 
     /// The one answer of both tables and the book.
     fn asked(&mut self, moment: u64, cost: u32) -> Answer {
-        let paced = self.paced.acquire(&self.plan, moment, SHOP, cost);
-        let bucket = self.bucket.acquire(&self.plan, moment, SHOP, cost);
-        let book = self.book.acquire(moment, SHOP, cost);
+        let plans = Plans::one(self.plan);
+        let paced = self.paced.acquire(&plans, moment, SHOP, 0, cost);
+        let bucket = self.bucket.acquire(&plans, moment, SHOP, 0, cost);
+        let book = self.book.acquire(moment, SHOP, 0, cost);
         assert_eq!([bucket, book], [paced; 2], "{:?} {moment}", self.plan);
         paced
     }

@@ -4,6 +4,7 @@
 use model::book::Book;
 use model::decision::{Bucket, Paced};
 use model::plan::Plan;
+use model::plans::Plans;
 use model::table::{Answer, Table};
 
 const MOMENT: u64 = 1000;
@@ -12,16 +13,17 @@ const SHOP: u32 = 7;
 /// The answers of GCRA, the token bucket and the book to a cost at a moment, after the costs before it at 1000.
 fn asked(plan: Plan, spent: &[u32], moment: u64, cost: u32) -> [Answer; 3] {
     let (mut paced, mut bucket) = (Table::<Paced>::cleared(1), Table::<Bucket>::cleared(1));
-    let mut book = Book::new(plan, 1);
+    let plans = Plans::one(plan);
+    let mut book = Book::new(plans.clone(), 1);
     for &cost in spent {
-        paced.acquire(&plan, MOMENT, SHOP, cost);
-        bucket.acquire(&plan, MOMENT, SHOP, cost);
-        book.acquire(MOMENT, SHOP, cost);
+        paced.acquire(&plans, MOMENT, SHOP, 0, cost);
+        bucket.acquire(&plans, MOMENT, SHOP, 0, cost);
+        book.acquire(MOMENT, SHOP, 0, cost);
     }
     [
-        paced.acquire(&plan, moment, SHOP, cost),
-        bucket.acquire(&plan, moment, SHOP, cost),
-        book.acquire(moment, SHOP, cost),
+        paced.acquire(&plans, moment, SHOP, 0, cost),
+        bucket.acquire(&plans, moment, SHOP, 0, cost),
+        book.acquire(moment, SHOP, 0, cost),
     ]
 }
 

@@ -1,10 +1,9 @@
-//! The run of crates/law_history/specs/Worked.antt, read from that file and played by both engines and the book: its expected
+//! The runs of crates/law_history/specs/Worked.antt, read from that file and played by both engines and the book: their expected
 //! answers are what the second implementation gives.
 
-use model::book::Book;
-use model::decision::{Bucket, Paced};
-use model::plan::Plan;
-use model::table::{Answer, Table};
+mod three;
+
+use three::Three;
 
 /// The words of each item of a list in the file, up to its end `[]`, without comments.
 fn list(name: &str) -> Vec<Vec<String>> {
@@ -23,45 +22,69 @@ fn list(name: &str) -> Vec<Vec<String>> {
         .collect()
 }
 
-fn numbers(words: &[String]) -> Vec<u64> {
+/// The numbers after the first word of an item.
+fn numbers(item: &[String]) -> Vec<u64> {
     let number = |word: &String| word.parse().expect("a number");
-    words.iter().map(number).collect()
+    item[1..].iter().map(number).collect()
+}
+
+/// A list of plans, as it is lent.
+fn plans(name: &str) -> Vec<u32> {
+    let narrow = |number: u64| u32::try_from(number).expect("32 bits");
+    let items = list(name);
+    items
+        .iter()
+        .flat_map(|item| numbers(item))
+        .map(narrow)
+        .collect()
+}
+
+/// Plays a run on one slot under these plans; all three must answer each call as `expected` says of its place and its words, and have
+/// the same newest moment.
+fn play(plans: &[u32], run: &[Vec<String>], expected: impl Fn(usize, &[String]) -> Vec<u64>) {
+    let mut three = Three::new(plans, 1);
+    for (place, call) in run.iter().enumerate() {
+        let answers = match (call[0].as_str(), &numbers(call)[..]) {
+            ("acquire", &[moment, who, plan, cost]) => {
+                three.acquire(moment, who as u32, plan as u32, cost as u32)
+            }
+            ("peek", &[moment, who, plan]) => three.peek(moment, who as u32, plan as u32),
+            ("clear", []) => three.clear(),
+            other => panic!("a call that nothing here makes: {other:?}"),
+        };
+        let line: Vec<u128> = expected(place, call).into_iter().map(u128::from).collect();
+        assert_eq!(
+            answers.map(Vec::from),
+            [(); 3].map(|_| line.clone()),
+            "{call:?}"
+        );
+        let newest = three.newest();
+        assert_eq!(newest, [newest[0]; 3], "{call:?}");
+    }
 }
 
 #[test]
 fn the_expected_answers_are_right() {
-    let plan = Plan::new(3, 1000, 2);
-    let (mut paced, mut bucket) = (Table::<Paced>::cleared(1), Table::<Bucket>::cleared(1));
-    let mut book = Book::new(plan, 1);
-    let (run, expected) = (list("run"), list("expected"));
-    assert_eq!((run.len(), expected.len()), (31, 31));
-    for (call, line) in run.iter().zip(&expected) {
-        let arguments = numbers(&call[1..]);
-        let answers: [Answer; 3] = match (call[0].as_str(), &arguments[..]) {
-            ("acquire", &[moment, subscriber, cost]) => {
-                let (who, cost) = (subscriber as u32, cost as u32);
-                [
-                    paced.acquire(&plan, moment, who, cost),
-                    bucket.acquire(&plan, moment, who, cost),
-                    book.acquire(moment, who, cost),
-                ]
-            }
-            ("peek", &[moment, subscriber]) => {
-                let who = subscriber as u32;
-                let seen = [
-                    paced.peek(&plan, moment, who),
-                    bucket.peek(&plan, moment, who),
-                ];
-                [seen[0], seen[1], book.peek(moment, who)]
-            }
-            ("clear", []) => [paced.clear(), bucket.clear(), book.clear()],
-            other => panic!("a call that nothing here makes: {other:?}"),
-        };
-        let expected: Vec<u128> = numbers(&line[1..]).into_iter().map(u128::from).collect();
-        assert_eq!(
-            answers.map(Vec::from),
-            [(); 3].map(|_| expected.clone()),
-            "{call:?}"
-        );
+    for (name, calls) in [
+        ("falling", 22),
+        ("ending", 11),
+        ("owing", 18),
+        ("changing", 14),
+    ] {
+        let (run, answers) = (list(name), list(&format!("{name}Answers")));
+        assert_eq!((run.len(), answers.len()), (calls, calls), "{name}");
+        play(&plans("plans"), &run, |place, _| numbers(&answers[place]));
+    }
+}
+
+/// Number 1 to every ask and look under a list with a bad plan that no call asks for, under none and under 17; 0 to a clear.
+#[test]
+fn bad_plans_are_refused() {
+    let seventeen = plans("plans")[..3].repeat(17);
+    for bad in [plans("spoilt"), Vec::new(), seventeen] {
+        play(&bad, &list("changing"), |_, call| match call[0].as_str() {
+            "clear" => vec![0; 5],
+            _ => vec![1, numbers(call)[1], 0, 0, 0],
+        });
     }
 }

@@ -1,16 +1,21 @@
-//! The calls of one long run under one plan: a clock that mostly creeps, more subscribers than slots, and costs that keep
-//! slots busy, so that throttling, refilling, takeover of free slots and a full table all occur again and again; moments near
-//! the end of the clock; and if the clock falls, moments below the newest admission, at it and above it.
+//! The calls of one long run under one list of plans: a clock that mostly creeps, more subscribers than slots, and costs that keep
+//! slots busy, so that throttling, refilling, takeover of free slots and a full table all occur again and again; subscribers that
+//! come under another plan while they owe, and after; moments near the end of the clock; and if the clock falls, moments below the
+//! newest admission, at it and above it.
 
-use crate::call::{ask, plan_of, Call, Terms};
+mod clock;
+mod plans;
+
+use crate::call::{ask, peek, plan_of, Call, Terms};
 use crate::choose::{self, LAST};
+use crate::list::List;
+use crate::lists;
 use crate::rng::Rng;
 use model::plan::div_up;
 use model::table::Answer;
+use std::collections::BTreeMap;
 
-const HOUR: u64 = 3_600_000;
-
-/// How many slots: few; from 41 to 4,096; or exactly so many, which are filled once, under a plan and at moments that let
+/// How many slots: few; from 41 to 4,096; or exactly so many, which are filled once, under plans and at moments that let
 /// everybody come to owe nothing then.
 #[derive(Clone, Copy, PartialEq, Eq)]
 pub enum Size {
@@ -19,9 +24,18 @@ pub enum Size {
     Exactly(usize),
 }
 
+/// What a subscriber was told when it was admitted last: under which plan, and when it owes nothing any more.
+#[derive(Clone, Copy)]
+struct Told {
+    plan: u32,
+    reset: u64,
+}
+
 pub struct Course {
-    pub terms: Terms,
+    pub list: List,
     pub slots: usize,
+    /// The plans that are lent, or that a bad list was made of.
+    plans: Vec<Terms>,
     size: Size,
     subscribers: u64,
     /// Where the slots are many, how many subscribers are still to ask one after the other, until the table is full.
@@ -32,22 +46,11 @@ pub struct Course {
     /// The newest moment at which anything was admitted, as the answers tell, and who was.
     newest: u64,
     holder: Option<u32>,
-    /// In how many milliseconds a whole burst drains.
+    told: BTreeMap<u32, Told>,
+    /// In how many milliseconds a whole burst drains, of the plan under which that takes longest.
     drain: u64,
     /// The longest ordinary step of the clock.
     pace: u64,
-}
-
-fn terms(rng: &mut Rng, size: Size) -> Terms {
-    match rng.below(16) {
-        0 if size == Size::Few => choose::bad_terms(rng),
-        0..=5 if !matches!(size, Size::Exactly(_)) => choose::good_terms(rng),
-        _ => Terms {
-            limit: rng.pick(&[1, 2, 3, 7, 10, 1000]),
-            period: rng.pick(&[1, 2, 10, 999, 1000, 86_400_000]),
-            burst: rng.pick(&[1, 2, 3, 5, 10, 100]),
-        },
-    }
 }
 
 fn slots(rng: &mut Rng, size: Size) -> u64 {
@@ -60,20 +63,26 @@ fn slots(rng: &mut Rng, size: Size) -> u64 {
     }
 }
 
+fn drain(terms: &Terms) -> u64 {
+    let plan = plan_of(terms);
+    div_up(plan.full(), plan.limit) as u64
+}
+
 impl Course {
     pub fn new(rng: &mut Rng, size: Size, falls: bool) -> Course {
-        let terms = terms(rng, size);
+        let plans = plans::any(rng, size);
         let slots = slots(rng, size);
         let least = match size {
             Size::Exactly(_) => 1 + slots / 2, // so that somebody without a slot asks soon
             _ => 1,
         };
         let subscribers = slots + rng.from(least, slots + 2);
-        let drain = div_up(plan_of(&terms).full(), plan_of(&terms).limit) as u64;
-        let share = drain / subscribers;
+        let longest = plans.iter().map(drain).max().unwrap_or(0);
+        let share = rng.pick(&plans.iter().map(drain).collect::<Vec<_>>()) / subscribers;
         let mut course = Course {
-            terms,
+            list: plans::list(rng, size, &plans),
             slots: slots as usize,
+            plans,
             size,
             subscribers,
             to_come: 0,
@@ -81,7 +90,8 @@ impl Course {
             moment: 0,
             newest: 0,
             holder: None,
-            drain,
+            told: BTreeMap::new(),
+            drain: longest,
             pace: rng.pick(&[1, share / 8, share / 2, share, 2 * share]),
         };
         course.start_the_clock(rng);
@@ -99,18 +109,6 @@ impl Course {
             // seven of eight calls fill a slot, and then some more
             Size::Exactly(_) => slots + slots / 7 + 3000,
         }
-    }
-
-    /// At the start, and anew after a clear: there also a clock that rises may begin earlier. Near its end, waits end beyond it.
-    pub fn start_the_clock(&mut self, rng: &mut Rng) {
-        self.moment = match rng.below(5) {
-            0 => 0,
-            1 => rng.below(10_000),
-            _ if self.once() => rng.of_any_size(LAST / 2),
-            2 if self.size == Size::Few => LAST - rng.below(self.terms.period.max(1) as u64),
-            2 | 3 => rng.of_any_size(LAST),
-            _ => LAST - rng.below(self.drain.clamp(1, LAST)),
-        };
     }
 
     /// The table is filled once.
@@ -135,7 +133,7 @@ impl Course {
             self.gather();
             return Call::Clear;
         }
-        if let Some(call) = self.after_the_wait(rng, last, answer) {
+        if let Some(call) = self.again(rng, last, answer) {
             return call;
         }
         self.tick(rng);
@@ -145,20 +143,42 @@ impl Course {
     fn hear(&mut self, last: &Call, answer: &Answer) {
         match *last {
             Call::Acquire {
-                moment, subscriber, ..
-            } if answer[0] == 0 => (self.newest, self.holder) = (moment, Some(subscriber)),
-            Call::Clear => (self.newest, self.holder) = (0, None),
+                moment,
+                subscriber,
+                plan,
+                ..
+            } if answer[0] == 0 => {
+                (self.newest, self.holder) = (moment, Some(subscriber));
+                let reset = answer[3] as u64;
+                self.told.insert(subscriber, Told { plan, reset });
+            }
+            Call::Clear => {
+                (self.newest, self.holder) = (0, None);
+                self.told.clear();
+            }
             _ => (),
         }
     }
 
     /// The last calls of a run: at the clock's last moment who was admitted last, and so has a slot, asks for its whole burst
     /// twice. The second time at the latest it is not there on this clock.
-    pub fn end(&self) -> impl Iterator<Item = Call> {
-        let whole = self
-            .holder
-            .map(|holder| ask(LAST, holder, self.terms.burst));
+    pub fn end(&self) -> impl Iterator<Item = Call> + '_ {
+        let whole = self.holder.map(|holder| {
+            let plan = self.plan(holder);
+            ask(LAST, holder, plan, self.terms(plan).burst)
+        });
         whole.into_iter().flat_map(|call| [call; 2])
+    }
+
+    /// The plan under which a subscriber was admitted last; each begins under one of its own.
+    fn plan(&self, subscriber: u32) -> u32 {
+        let told = self.told.get(&subscriber);
+        told.map_or(subscriber % self.plans.len() as u32, |told| told.plan)
+    }
+
+    /// The plan of this number, or any if it is not lent.
+    fn terms(&self, plan: u32) -> &Terms {
+        self.plans.get(plan as usize).unwrap_or(&self.plans[0])
     }
 
     fn newcomer(&mut self, rng: &mut Rng) -> Call {
@@ -167,112 +187,59 @@ impl Course {
         }
         let subscriber = self.to_come;
         self.to_come -= 1;
-        Call::Acquire {
-            moment: self.moment,
-            subscriber,
-            cost: self.cost(rng),
-        }
+        let plan = self.plan(subscriber);
+        ask(self.moment, subscriber, plan, self.cost(rng, plan))
     }
 
-    /// A call of anybody; now and then one that is refused, or whose moment alone falls.
+    /// A call of anybody, now and then under another plan; or one that is refused, or whose moment alone falls.
     fn anybody(&self, rng: &mut Rng) -> Call {
         let mut moment = match self.falls && rng.once_in(12) {
             true => self.earlier(rng),
             false => self.moment,
         };
         let mut subscriber = rng.from(1, self.subscribers) as u32;
-        let mut cost = self.cost(rng);
+        let mut plan = self.plan(subscriber);
+        if rng.once_in(6) {
+            plan = lists::other(rng, plan, self.plans.len());
+        }
+        let mut cost = self.cost(rng, plan);
         match rng.below(160) {
             0 => moment = choose::beyond_the_clock(rng),
             1 => subscriber = 0,
             2 => cost = 0,
-            3 => cost = rng.pick(&[self.terms.burst.saturating_add(1), u32::MAX]),
+            3 => cost = rng.pick(&[self.terms(plan).burst.saturating_add(1), u32::MAX]),
+            4 => plan = lists::unlent(rng, self.plans.len()),
             _ => (),
         }
         if rng.once_in(6) {
-            Call::Peek { moment, subscriber }
+            peek(moment, subscriber, plan)
         } else {
-            Call::Acquire {
-                moment,
-                subscriber,
-                cost,
-            }
+            ask(moment, subscriber, plan, cost)
         }
     }
 
-    /// Now and then, the throttled call again after its wait or one millisecond earlier.
-    fn after_the_wait(&mut self, rng: &mut Rng, last: &Call, answer: &Answer) -> Option<Call> {
-        let Call::Acquire {
-            moment,
-            subscriber,
-            cost,
-        } = *last
-        else {
-            return None;
+    /// Now and then, the throttled call again after its wait, or the call that got 12 when nothing is owed any more; or either a
+    /// millisecond earlier.
+    fn again(&mut self, rng: &mut Rng, last: &Call, answer: &Answer) -> Option<Call> {
+        let subscriber = last.subscriber();
+        let due = match (last.moment()?, answer[0]) {
+            (moment, 8) => moment + answer[4] as u64,
+            (_, 12) => self.told.get(&subscriber)?.reset,
+            _ => return None,
         };
-        if answer[0] != 8 || !rng.once_in(3 + self.slots as u64 / 16) {
+        if !rng.once_in(3 + self.slots as u64 / 16) || due > LAST {
             return None;
         }
-        let moment = moment + answer[4] as u64 - rng.below(2);
-        self.moment = moment.min(LAST);
-        Some(Call::Acquire {
-            moment,
-            subscriber,
-            cost,
-        })
+        self.moment = due - rng.below(2);
+        Some(last.at(self.moment))
     }
 
-    fn cost(&self, rng: &mut Rng) -> u32 {
-        let burst = self.terms.burst.max(1);
+    fn cost(&self, rng: &mut Rng, plan: u32) -> u32 {
+        let burst = self.terms(plan).burst;
         match rng.below(4) {
             0 => 1,
             1 => burst,
             _ => rng.from(1, burst as u64) as u32,
         }
-    }
-
-    fn tick(&mut self, rng: &mut Rng) {
-        let rests = if self.once() {
-            192
-        } else {
-            64 + self.slots as u64
-        };
-        let step = if rng.once_in(rests) {
-            self.drain
-        } else if rng.once_in(2) {
-            0
-        } else {
-            rng.from(0, self.pace)
-        };
-        self.moment = self.moment.saturating_add(step).min(LAST);
-        if self.falls {
-            self.put_back(rng);
-        }
-    }
-
-    /// Now and then the clock is put back; and some calls later it is put right, if that is below the newest admission.
-    fn put_back(&mut self, rng: &mut Rng) {
-        if self.moment >= self.newest {
-            if rng.once_in(64) {
-                self.moment = self.earlier(rng);
-            }
-        } else if rng.once_in(8) {
-            self.moment = (self.newest + rng.from(0, self.pace)).min(LAST);
-        }
-    }
-
-    /// A moment some way before what the clock shows, or an hour, or 0; or the newest admission's, just before it or just
-    /// after, if the clock has come so far.
-    fn earlier(&self, rng: &mut Rng) -> u64 {
-        let back = rng.pick(&[1, self.pace, self.drain]).max(1);
-        let moment = match rng.below(8) {
-            0 => 0,
-            1 => self.newest.saturating_sub(1),
-            2 => self.newest,
-            3 => self.newest + 1,
-            4 => self.moment.saturating_sub(HOUR),
-            _ => self.moment.saturating_sub(rng.from(1, back)),
-        };
-        moment.min(self.moment)
     }
 }

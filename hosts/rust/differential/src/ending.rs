@@ -9,7 +9,10 @@ use crate::compare::{circumstances, Difference, Pair};
 use crate::counts::Counts;
 use crate::engine::Engine;
 use crate::joint::Joint;
+use crate::list::List;
+use crate::lists;
 use crate::rng::Rng;
+use crate::scene;
 use crate::spoil::{self, Spoil};
 use crate::trial::Trial;
 use model::decision::{least_wait, Bucket, Paced};
@@ -62,9 +65,10 @@ fn in_runs(trial: &mut Trial, counts: &mut Ends) -> Result<(), Difference> {
     let (denial, ago) = Denial::after_the_burst(&mut trial.rng);
     for moment in denial.moments(&mut trial.rng, ago) {
         let slots = trial.rng.from(1, 3) as usize;
-        let mut joint = Joint::new(trial, denial.terms, slots);
+        let mut joint = Joint::new(trial, &List::of(&denial.plans), slots);
         joint.call(trial, &Call::Clear)?;
-        joint.call(trial, &ask(moment - ago, SHOP, denial.terms.burst))?;
+        let whole = denial.terms.burst;
+        joint.call(trial, &ask(moment - ago, SHOP, denial.number, whole))?;
         denial.follow(trial, &mut joint, moment, counts)?;
     }
     Ok(())
@@ -94,22 +98,32 @@ impl Gate for Joint {
     }
 }
 
-/// A cost that is too much for who owes this much.
+/// A cost that is too much for who owes this much under one of some plans, which has this number.
 struct Denial {
+    plans: Vec<Terms>,
+    number: u32,
     terms: Terms,
     cost: u32,
     debt: u128,
 }
 
 impl Denial {
+    fn new(rng: &mut Rng, terms: Terms, cost: u32, debt: u128) -> Denial {
+        let count = lists::count(rng);
+        let (plans, number) = lists::among(rng, terms, count);
+        Denial {
+            plans,
+            number,
+            terms,
+            cost,
+            debt,
+        }
+    }
+
     fn any(rng: &mut Rng) -> Denial {
         let (terms, cost) = request(rng);
         let debt = choose::too_much(rng, &plan_of(&terms), cost as u128);
-        Denial {
-            terms,
-            cost,
-            debt: debt.expect("a cost within its limits"),
-        }
+        Denial::new(rng, terms, cost, debt.expect("a cost within its limits"))
     }
 
     /// So many milliseconds after the whole burst, when the cost is not there yet.
@@ -120,7 +134,11 @@ impl Denial {
         let some = rng.below(whole);
         let ago = rng.pick(&[0, some, whole - 1]);
         let debt = plan.full() - ago as u128 * plan.limit;
-        (Denial { terms, cost, debt }, ago)
+        (Denial::new(rng, terms, cost, debt), ago)
+    }
+
+    fn request(&self, moment: u64) -> Call {
+        ask(moment, SHOP, self.number, self.cost)
     }
 
     fn wait(&self) -> u64 {
@@ -146,9 +164,9 @@ impl Denial {
         moment: u64,
         counts: &mut Ends,
     ) -> Result<(), Difference> {
-        let plan = plan_of(&self.terms);
-        let table = choose::owing::<E>(&mut trial.rng, &plan, moment, SHOP, self.debt);
-        let mut pair = Pair::new(self.terms, table, trial.spoil);
+        let (rng, number) = (&mut trial.rng, self.number);
+        let table = scene::owing::<E>(rng, &self.plans, number, moment, SHOP, self.debt);
+        let mut pair = Pair::new(List::of(&self.plans), table, trial.spoil);
         self.follow(trial, &mut pair, moment, counts)
     }
 
@@ -160,16 +178,16 @@ impl Denial {
         moment: u64,
         counts: &mut Ends,
     ) -> Result<(), Difference> {
-        let call = ask(moment, SHOP, self.cost);
+        let call = self.request(moment);
         let answer = gate.ask(trial, &call)?;
         self.count::<G>(moment, &answer, counts);
         let heard = self.heard(trial.spoil, &call, answer);
         for (later, number) in due(&mut trial.rng, moment, &heard) {
-            let got = gate.ask(trial, &ask(later, SHOP, self.cost))?;
+            let got = gate.ask(trial, &self.request(later))?;
             if got[0] != number {
                 return Err(format!(
                     "after {heard:?} the same request gets {got:?} at {later}, and {number} is due\n{}",
-                    circumstances(&self.terms, &call)
+                    circumstances(&List::of(&self.plans), &call)
                 ));
             }
         }

@@ -1,7 +1,7 @@
 //! What the comparison must know of an engine besides the model's record: its calls in the archive, and the numbers
 //! where its record is at a bound.
 
-use crate::call::{Call, Terms};
+use crate::call::Call;
 use crate::lent::Lent;
 use crate::out::{answered, Out};
 use crate::rng::Rng;
@@ -16,7 +16,8 @@ pub const NAMES: [&str; 2] = [Paced::NAME, Bucket::NAME];
 pub trait Engine: Stored {
     const NAME: &'static str;
     const PLACE: usize;
-    fn call(terms: &Terms, table: &mut Lent, call: &Call) -> Out;
+    /// On a list of plans and a table as they are lent.
+    fn call(plans: &[u32], table: &mut Lent, call: &Call) -> Out;
     /// Free at the moment, with nothing to spare.
     fn just_free(self, plan: &Plan, moment: u128) -> bool;
     /// A record at one of the bounds that matter at this moment, beside it, or anywhere.
@@ -29,19 +30,27 @@ impl Engine for Paced {
     const NAME: &'static str = "gcra";
     const PLACE: usize = 0;
 
-    fn call(terms: &Terms, table: &mut Lent, call: &Call) -> Out {
-        let (ids, tats) = (table.ids.inside_mut(), table.columns[0].inside_mut());
-        let newest = &mut table.newest[0];
+    fn call(plans: &[u32], table: &mut Lent, call: &Call) -> Out {
+        let Lent {
+            ids,
+            plan_numbers,
+            columns,
+            newest,
+        } = table;
+        let (tats, newest) = (&mut columns[0], &mut newest[0]);
         answered(|out| match *call {
             Call::Acquire {
-                moment,
-                subscriber,
+                moment: m,
+                subscriber: s,
+                plan: p,
                 cost,
-            } => numbers::gcra_acquire(terms, ids, tats, newest, moment, subscriber, cost, out),
-            Call::Peek { moment, subscriber } => {
-                numbers::gcra_peek(terms, ids, tats, newest, moment, subscriber, out)
-            }
-            Call::Clear => numbers::gcra_clear(ids, tats, newest, out),
+            } => numbers::gcra_acquire(plans, ids, plan_numbers, tats, newest, m, s, p, cost, out),
+            Call::Peek {
+                moment: m,
+                subscriber: s,
+                plan: p,
+            } => numbers::gcra_peek(plans, ids, plan_numbers, tats, newest, m, s, p, out),
+            Call::Clear => numbers::gcra_clear(ids, plan_numbers, tats, newest, out),
         })
     }
 
@@ -73,23 +82,53 @@ impl Engine for Bucket {
     const NAME: &'static str = "token-bucket";
     const PLACE: usize = 1;
 
-    fn call(terms: &Terms, table: &mut Lent, call: &Call) -> Out {
-        let ids = table.ids.inside_mut();
-        let (levels, lasts) = table.columns.split_at_mut(1);
-        let (levels, lasts) = (levels[0].inside_mut(), lasts[0].inside_mut());
-        let newest = &mut table.newest[0];
+    fn call(plans: &[u32], table: &mut Lent, call: &Call) -> Out {
+        let Lent {
+            ids,
+            plan_numbers,
+            columns,
+            newest,
+        } = table;
+        let (levels, lasts) = columns.split_at_mut(1);
+        let (levels, lasts, newest) = (&mut levels[0], &mut lasts[0], &mut newest[0]);
         answered(|out| match *call {
             Call::Acquire {
-                moment,
-                subscriber,
+                moment: m,
+                subscriber: s,
+                plan: p,
                 cost,
             } => numbers::token_bucket_acquire(
-                terms, ids, levels, lasts, newest, moment, subscriber, cost, out,
+                plans,
+                ids,
+                plan_numbers,
+                levels,
+                lasts,
+                newest,
+                m,
+                s,
+                p,
+                cost,
+                out,
             ),
-            Call::Peek { moment, subscriber } => numbers::token_bucket_peek(
-                terms, ids, levels, lasts, newest, moment, subscriber, out,
+            Call::Peek {
+                moment: m,
+                subscriber: s,
+                plan: p,
+            } => numbers::token_bucket_peek(
+                plans,
+                ids,
+                plan_numbers,
+                levels,
+                lasts,
+                newest,
+                m,
+                s,
+                p,
+                out,
             ),
-            Call::Clear => numbers::token_bucket_clear(ids, levels, lasts, newest, out),
+            Call::Clear => {
+                numbers::token_bucket_clear(ids, plan_numbers, levels, lasts, newest, out)
+            }
         })
     }
 

@@ -8,6 +8,7 @@ use crate::choose::{self, LAST};
 use crate::compare::{Difference, Pair};
 use crate::counts::Counts;
 use crate::engine::Engine;
+use crate::list::List;
 use crate::out::answered;
 use crate::rng::Rng;
 use crate::spoil::Spoil;
@@ -26,7 +27,8 @@ const WAITED: usize = 6;
 const RENEWED: usize = 7;
 const AT_THE_END: usize = 8;
 const NEVER: usize = 9;
-const KINDS: [&str; 10] = [
+const OTHER_PLAN: usize = 10;
+const KINDS: [&str; 11] = [
     "bad plan",
     "admitted",
     "throttled",
@@ -37,12 +39,13 @@ const KINDS: [&str; 10] = [
     "renewed",
     "at the end",
     "never",
+    "other plan",
 ];
 
 /// How many answers of each kind were compared, how many clients waited as long as they were told, and how many came for their
 /// whole burst at the reset that they were told; how many of those who would come after the clock's end were admitted at its
 /// last moment, and how many not.
-pub type Fields = Counts<10>;
+pub type Fields = Counts<11>;
 
 /// What a client comes again for, and at which moments, with the number that is due at each.
 struct Visit {
@@ -104,16 +107,18 @@ impl Trial {
             false => begin.saturating_add(apart),
         };
         let spender = rng.pick(&[1, 1, 1, 2]);
-        let mut pair = Pair::new(terms, Table::<E>::cleared(1), None);
-        pair.call(&ask(begin, spender, terms.burst))?;
-        let answer = pair.call(&ask(moment, subscriber, cost))?.map(|n| n as u64);
+        let mut pair = Pair::new(List::of(&[terms]), Table::<E>::cleared(1), None);
+        pair.call(&ask(begin, spender, 0, terms.burst))?;
+        let answer = pair
+            .call(&ask(moment, subscriber, 0, cost))?
+            .map(|n| n as u64);
         let told = self.fields(&terms, moment, &answer)?;
         let Some(visit) = self.visit(&terms, moment, cost, &answer, &told) else {
             return Ok(());
         };
         self.counts.count(visit.kind, true);
         for (later, number) in visit.due {
-            let got = pair.call(&ask(later, subscriber, visit.cost))?[0];
+            let got = pair.call(&ask(later, subscriber, 0, visit.cost))?[0];
             if got != number {
                 let (name, why, cost) = (E::NAME, KINDS[visit.kind], visit.cost);
                 return Err(format!(
@@ -180,6 +185,7 @@ impl Trial {
             0 => ADMITTED,
             8 => THROTTLED,
             11 => EARLY,
+            12 => OTHER_PLAN,
             13 => OFF_CLOCK,
             _ => REFUSED,
         };

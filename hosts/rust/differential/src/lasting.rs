@@ -1,13 +1,16 @@
 //! Runs that must be remembered long: one or two slots, a large burst, and some hundreds of admissions of subscribers who owe
 //! something throughout, so that what they owe depends on calls far back; and mostly so late that it depends on them whether a
-//! wait ends within the clock.
+//! wait ends within the clock. Now and then one of them comes under another plan, and is told that it owes.
 
-use crate::call::{ask, plan_of, Call, Terms};
+use crate::call::{ask, peek, plan_of, Call, Terms};
 use crate::choose::{self, LAST};
 use crate::compare::Difference;
 use crate::counts::{answered, Counts, ANSWERED};
-use crate::joint::{ask_and_forget, Joint};
+use crate::joint::{self, Joint};
+use crate::list::List;
+use crate::lists;
 use crate::rng::Rng;
+use crate::spoil::SHORT_MEMORY;
 use crate::trial::Trial;
 use model::book::Book;
 use model::plan::div_up;
@@ -28,14 +31,15 @@ pub fn run(trial: &mut Trial) -> Result<Remembered, Difference> {
 fn one(trial: &mut Trial, counts: &mut Remembered) -> Result<(), Difference> {
     let mut course = Course::new(&mut trial.rng);
     let slots = course.resets.len();
-    let mut joint = Joint::new(trial, course.terms, slots);
-    let mut forgetful = Book::new(plan_of(&course.terms), slots);
+    let list = List::of(&course.plans);
+    let mut joint = Joint::new(trial, &list, slots);
+    let mut forgetful = Book::mistaken(list.plans().clone(), slots, Some(SHORT_MEMORY));
     joint.call(trial, &Call::Clear)?;
     for _ in 0..slots as u64 * trial.rng.from(300, 900) {
         let call = course.next(&mut trial.rng);
         let answer = joint.call(trial, &call)?;
         course.hear(&call, &answer);
-        let wrong = ask_and_forget(&mut forgetful, &call) != answer;
+        let wrong = joint::ask(&mut forgetful, &call) != answer;
         if matches!(answer[0], 0 | 8 | 13) {
             counts.count(answered(&call, answer[0]), wrong);
         }
@@ -46,8 +50,10 @@ fn one(trial: &mut Trial, counts: &mut Remembered) -> Result<(), Difference> {
     Ok(())
 }
 
-/// The calls of a run. Subscribers 1, 2, .. hold the slots, and one more finds none.
+/// The calls of a run. Subscribers 1, 2, .. hold the slots, and one more finds none; all come under the plan of one number.
 struct Course {
+    plans: Vec<Terms>,
+    number: u32,
     terms: Terms,
     /// What each holder asks for first.
     first: u32,
@@ -88,7 +94,12 @@ impl Course {
         let (soon, anywhen) = (rng.below(10_000), rng.of_any_size(LAST));
         // after some 170 admissions more is owed than drains on this clock, and what a short memory knows still does
         let late = LAST.saturating_sub(drain_first + drain / 6);
+        // mostly several
+        let count = lists::count(rng).max(lists::count(rng));
+        let (plans, number) = lists::among(rng, terms, count);
         Course {
+            plans,
+            number,
             terms,
             first,
             moment: rng.pick(&[soon, anywhen, late, late, late, late]),
@@ -107,7 +118,7 @@ impl Course {
     fn next(&mut self, rng: &mut Rng) -> Call {
         let burst = self.terms.burst;
         if let Some(new) = self.resets.iter().position(|&reset| reset == 0) {
-            return ask(self.moment, new as u32 + 1, self.first);
+            return ask(self.moment, new as u32 + 1, self.number, self.first);
         }
         let step = rng.from(0, self.pace);
         let latest = self.resets.iter().fold(self.until + 1, |a, &b| a.min(b)) - 1;
@@ -118,15 +129,21 @@ impl Course {
             0 => self.moment.saturating_sub(rng.of_any_size(LAST)),
             _ => self.moment,
         };
+        let plan = match rng.below(8) {
+            0 => lists::other(rng, self.number, self.plans.len()),
+            _ => self.number,
+        };
         match rng.below(16) {
-            0 => Call::Peek {
-                moment,
-                subscriber: holder,
-            },
-            1 => ask(moment, self.stranger(), cost),
-            2 => ask(moment, holder, burst),
-            _ => ask(moment, holder, cost),
+            0 => peek(moment, holder, plan),
+            1 => ask(moment, self.stranger(), plan, self.of(plan, cost)),
+            2 => ask(moment, holder, plan, self.of(plan, burst)),
+            _ => ask(moment, holder, plan, self.of(plan, cost)),
         }
+    }
+
+    /// A cost that the plan of this number allows.
+    fn of(&self, plan: u32, cost: u32) -> u32 {
+        cost.min(self.plans[plan as usize].burst)
     }
 
     fn hear(&mut self, call: &Call, answer: &Answer) {
@@ -141,7 +158,8 @@ impl Course {
         let rested = self.resets.iter().fold(0, |a, &b| a.max(b));
         let all = move |moment| {
             let subscribers = (1..=self.stranger()).rev();
-            subscribers.map(move |subscriber| ask(moment, subscriber, self.terms.burst))
+            let whole = self.terms.burst;
+            subscribers.map(move |subscriber| ask(moment, subscriber, self.number, whole))
         };
         [rested.min(LAST), LAST, LAST].into_iter().flat_map(all)
     }

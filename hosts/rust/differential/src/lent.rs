@@ -62,10 +62,12 @@ impl<T: Copy + PartialEq> DerefMut for Guarded<T> {
     }
 }
 
-/// The ids, the columns of the record in the order of `Stored::COLUMNS`, and the newest moment, which is one number.
+/// The ids, the numbers of the slots' plans, the columns of the record in the order of `Stored::COLUMNS`, and the newest moment,
+/// which is one number.
 #[derive(Clone)]
 pub struct Lent {
     pub ids: Guarded<u32>,
+    pub plan_numbers: Guarded<u8>,
     pub columns: Vec<Guarded<u64>>,
     pub newest: Guarded<u64>,
 }
@@ -76,18 +78,23 @@ impl Lent {
         let columns = table.columns.iter();
         Lent {
             ids: Guarded::new(&table.ids, 0xa5a5_a5a5),
+            plan_numbers: Guarded::new(&table.plan_numbers, 0xa5),
             columns: columns.map(|column| guarded(column)).collect(),
             newest: guarded(&[table.newest]),
         }
     }
 
     pub fn intact(&self) -> bool {
-        self.ids.intact() && self.columns.iter().all(Guarded::intact) && self.newest.intact()
+        self.ids.intact()
+            && self.plan_numbers.intact()
+            && self.columns.iter().all(Guarded::intact)
+            && self.newest.intact()
     }
 
     pub fn holds<R: Stored>(&self, table: &Table<R>) -> bool {
         let mut pairs = self.columns.iter().zip(&table.columns);
         self.ids.inside() == table.ids
+            && self.plan_numbers.inside() == table.plan_numbers
             && pairs.all(|(ours, theirs)| ours.inside() == theirs)
             && self.newest.inside() == [table.newest]
     }

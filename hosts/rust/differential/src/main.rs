@@ -1,7 +1,7 @@
 //! Compares the proved archive, through its C interface, with the second implementation: after every call the answer, every
-//! column and the newest moment, on any table and on tables of the most slots and of one more; over a run both engines with
-//! the book, also where the clock falls and where it must remember long; where a wait ends; what a reset is worth; and the
-//! fields for HTTP.
+//! column and the newest moment, under any list of plans, on any table and on tables of the most slots and of one more; over a run
+//! both engines with the book, also where subscribers change their plans, where the clock falls and where it must remember long;
+//! where a wait ends; what a reset is worth; and the fields for HTTP.
 //! `options::USAGE` says how to run it.
 
 mod call;
@@ -13,13 +13,18 @@ mod ending;
 mod engine;
 mod http;
 mod joint;
+mod kinds;
 mod lasting;
 mod lent;
+mod list;
+mod lists;
+mod offered;
 mod options;
 mod out;
 mod reset;
 mod rng;
 mod runs;
+mod scene;
 mod single;
 mod spoil;
 mod steady;
@@ -27,13 +32,12 @@ mod tally;
 mod trial;
 
 use compare::Difference;
+use kinds::{Kind, BETWEEN, BEYOND, ENDING, FALLING, LASTING, MOST, RISING, SINGLE, STEADY, WIDE};
 use options::{Options, Wish};
 use std::env;
 use std::io::{self, Write};
 use std::process::ExitCode;
-use tally::{
-    Kind, Tally, BETWEEN, BEYOND, ENDING, FALLING, LASTING, MOST, RISING, SINGLE, STEADY, WIDE,
-};
+use tally::Tally;
 use trial::Trial;
 
 type Run = fn(&mut Trial) -> Result<(), Difference>;
@@ -41,19 +45,19 @@ type Run = fn(&mut Trial) -> Result<(), Difference>;
 /// What was compared, for the report.
 struct Compared {
     tallies: Vec<Tally>,
+    offered: offered::Offered,
     lasting: lasting::Remembered,
     ends: ending::Ends,
     resets: reset::Resets,
     fields: http::Fields,
 }
 
-/// Every kind of run, where a wait ends, what a reset is worth, and the fields for HTTP.
-fn compare_all(options: &Options) -> Result<Compared, Difference> {
-    let part = |percent| options.calls / 100 * percent;
+/// The kinds of which nothing but the tally is reported, and how many calls each makes of so many.
+fn plain_kinds(calls: u64) -> [(&'static Kind, u64, Run); 7] {
+    let part = |percent| calls / 100 * percent;
     // 2000 reach what they must; more of them only in longer comparisons, since a call on so many slots takes its time
-    let limit = (options.calls / 75).min(2000).max(options.calls / 2000);
-    let kinds: [(&Kind, u64, Run); 8] = [
-        (&SINGLE, part(55), single::any),
+    let limit = (calls / 75).min(2000).max(calls / 2000);
+    [
         (&MOST, limit, single::most),
         (&BEYOND, limit / 2, single::beyond),
         (&RISING, part(10), runs::rising),
@@ -61,24 +65,32 @@ fn compare_all(options: &Options) -> Result<Compared, Difference> {
         (&BETWEEN, part(5), runs::between),
         (&WIDE, part(3), runs::wide),
         (&STEADY, 3001, steady::run),
-    ];
+    ]
+}
+
+/// Every kind of run, where a wait ends, what a reset is worth, and the fields for HTTP.
+fn compare_all(options: &Options) -> Result<Compared, Difference> {
+    let part = |percent| options.calls / 100 * percent;
     let spoil = options.spoil.as_ref().map(|(_, spoil)| *spoil);
-    let mut tallies = Vec::new();
-    for (kind, calls, run) in kinds {
-        let mut trial = Trial::new(kind, options.seed, calls, spoil);
+    let trial = |kind, calls| Trial::new(kind, options.seed, calls, spoil);
+    let mut single = trial(&SINGLE, part(55));
+    let offered = single::any(&mut single)?;
+    let mut tallies = single.tallies;
+    for (kind, calls, run) in plain_kinds(options.calls) {
+        let mut trial = trial(kind, calls);
         run(&mut trial)?;
         tallies.extend(trial.tallies);
     }
     // so many that runs of every sort are among them
-    let mut trial = Trial::new(&LASTING, options.seed, part(2).max(8000), spoil);
-    let lasting = lasting::run(&mut trial)?;
-    tallies.extend(trial.tallies);
-    let mut trial = Trial::new(&ENDING, options.seed, part(5), spoil);
-    let ends = ending::run(&mut trial)?;
-    tallies.extend(trial.tallies);
+    let mut lasting = trial(&LASTING, part(2).max(8000));
+    let remembered = lasting::run(&mut lasting)?;
+    let mut ending = trial(&ENDING, part(5));
+    let ends = ending::run(&mut ending)?;
+    tallies.extend(lasting.tallies.into_iter().chain(ending.tallies));
     Ok(Compared {
         tallies,
-        lasting,
+        offered,
+        lasting: remembered,
         ends,
         resets: reset::run(options.seed, part(5), spoil)?,
         fields: http::run(options.seed, part(5), spoil)?,
@@ -87,7 +99,7 @@ fn compare_all(options: &Options) -> Result<Compared, Difference> {
 
 /// How often each number occurred.
 fn report(tallies: &[Tally]) -> String {
-    let total: u64 = tallies.iter().map(Tally::total).sum();
+    let total: u64 = tallies.iter().map(Tally::calls).sum();
     let lines: String = tallies.iter().map(Tally::lines).collect();
     format!(
         "{total} calls agree; how often each number was answered, and the most slots of a table:\n{}\n{lines}",
@@ -111,6 +123,7 @@ fn run(options: &Options) -> Result<(), u8> {
         1
     })?;
     say(&report(&compared.tallies))?;
+    say(&compared.offered.line())?;
     say(&compared.lasting.line())?;
     say(&compared.ends.line())?;
     say(&compared.resets.line())?;
@@ -126,6 +139,7 @@ fn run(options: &Options) -> Result<(), u8> {
         return Err(1);
     }
     let missing = compared.tallies.iter().flat_map(Tally::missing);
+    let missing = missing.chain(compared.offered.missing());
     let missing = missing.chain(compared.lasting.missing());
     let missing = missing.chain(compared.ends.missing());
     let missing = missing.chain(compared.resets.missing());

@@ -36,7 +36,7 @@ fn all(trial: &mut Trial, size: Size, falls: bool) -> Result<(), Difference> {
 }
 
 fn one(trial: &mut Trial, mut course: Course) -> Result<(), Difference> {
-    let mut joint = Joint::new(trial, course.terms, course.slots);
+    let mut joint = Joint::new(trial, &course.list, course.slots);
     let mut call = Call::Clear;
     for _ in 0..course.length(&mut trial.rng) {
         let answer = joint.call(trial, &call)?;

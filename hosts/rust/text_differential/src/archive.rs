@@ -47,7 +47,12 @@ fn wrong(due: &Due, got: &Lending) -> Vec<String> {
     let (table, lent) = (&due.held.table, &got.table);
     words.extend(place("byte", &due.held.out, got.out.inside()));
     if !lent.holds(table) {
-        words.extend(place("id", &table.ids, lent.ids.inside()));
+        words.extend(place("id", &table.ids, &lent.ids));
+        words.extend(place(
+            "plan number",
+            &table.plan_numbers,
+            &lent.plan_numbers,
+        ));
         words.extend(place("TAT", &table.columns[0], lent.columns[0].inside()));
         let (newest, left) = (table.newest, lent.newest[0]);
         if left != newest {

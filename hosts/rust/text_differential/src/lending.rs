@@ -24,41 +24,46 @@ const GUARD: u64 = 0xa5a5_a5a5_a5a5_a5a5;
 /// What the result holds before a call, so that a number that is left unwritten shows.
 const UNWRITTEN: u64 = 0x5a5a_5a5a_5a5a_5a5a;
 
-/// The lengths of ids, TATs and output.
+/// The lengths of ids, plan numbers, TATs and output.
 #[derive(Clone, Copy, Debug)]
 pub struct Lengths {
     ids: usize,
+    plan_numbers: usize,
     tats: usize,
     out: usize,
 }
 
 /// Lengths for a text, each with the result that is due. Document 01 knows no output or columns that are too short; what
 /// is due there is what the header of the C interface says.
-pub fn all(rng: &mut Rng, text: &[u8]) -> [(Lengths, u64); 8] {
+pub fn all(rng: &mut Rng, text: &[u8]) -> [(Lengths, u64); 10] {
     let lines = text.iter().filter(|&&byte| byte == b'\n').count();
     let room = HEADER + LONGEST_ANSWER * (lines + 1);
     let mut below = |end: usize| rng.below(end as u64) as usize;
+    let mut more = || SLOTS + below(50);
+    let (longer, some) = ([more(), more(), more()], [more(), more()]);
+    let short = below(SLOTS);
+    let (little, much) = (below(room), room + 1 + below(300));
     let lengths = [
-        (SLOTS, SLOTS, room, WRITTEN),
-        (
-            SLOTS + 1 + below(50),
-            SLOTS + 1 + below(50),
-            room + 1 + below(300),
-            WRITTEN,
-        ),
-        (SLOTS, SLOTS, room - 1, SHORT_OUTPUT),
-        (SLOTS + below(50), SLOTS, below(room), SHORT_OUTPUT),
-        (SLOTS - 1, SLOTS, room, SHORT_TABLE),
-        (SLOTS, SLOTS - 1, room, SHORT_TABLE),
-        (below(SLOTS), SLOTS + below(50), room - 1, SHORT_TABLE),
-        (
-            SLOTS + below(50),
-            below(SLOTS),
-            room + below(300),
-            SHORT_TABLE,
-        ),
+        ([SLOTS; 3], room, WRITTEN),
+        (longer.map(|length| length + 1), much, WRITTEN),
+        ([SLOTS; 3], room - 1, SHORT_OUTPUT),
+        ([some[0], SLOTS, some[1]], little, SHORT_OUTPUT),
+        ([SLOTS - 1, SLOTS, SLOTS], room, SHORT_TABLE),
+        ([SLOTS, SLOTS - 1, SLOTS], room, SHORT_TABLE),
+        ([SLOTS, SLOTS, SLOTS - 1], room, SHORT_TABLE),
+        ([short, some[0], some[1]], room - 1, SHORT_TABLE),
+        ([some[0], short, some[1]], much, SHORT_TABLE),
+        ([some[0], some[1], short], much, SHORT_TABLE),
     ];
-    lengths.map(|(ids, tats, out, due)| (Lengths { ids, tats, out }, due))
+    lengths.map(|([ids, plan_numbers, tats], out, due)| {
+        let lengths = Lengths {
+            ids,
+            plan_numbers,
+            tats,
+            out,
+        };
+        (lengths, due)
+    })
 }
 
 /// What columns, newest moment and output hold.
@@ -72,9 +77,11 @@ impl Held {
     /// Columns without zeros, any newest moment but 0, and an output without a byte that a text has.
     pub fn some(rng: &mut Rng, lengths: Lengths) -> Held {
         let ids = (0..lengths.ids).map(|_| rng.from(1, 9) as u32).collect();
+        let numbers = (0..lengths.plan_numbers).map(|_| rng.from(1, 255) as u8);
+        let numbers = numbers.collect();
         let tats = (0..lengths.tats).map(|_| rng.next() | 1).collect();
         Held {
-            table: Table::new(ids, vec![tats], rng.next() | 1),
+            table: Table::new(ids, numbers, vec![tats], rng.next() | 1),
             out: (0..lengths.out).map(|place| place as u8 | 0x80).collect(),
         }
     }
@@ -87,6 +94,7 @@ impl Held {
         if let Some(table) = &played.table {
             let slots = table.ids.len();
             after.table.ids[..slots].copy_from_slice(&table.ids);
+            after.table.plan_numbers[..slots].copy_from_slice(&table.plan_numbers);
             after.table.columns[0][..slots].copy_from_slice(&table.columns[0]);
             after.table.newest = table.newest;
         }
@@ -113,10 +121,11 @@ impl Lending {
     pub fn transcribe(&mut self, text: &[u8]) {
         numbers::transcribe(
             text,
-            self.table.ids.inside_mut(),
-            self.table.columns[0].inside_mut(),
+            &mut self.table.ids,
+            &mut self.table.plan_numbers,
+            &mut self.table.columns[0],
             &mut self.table.newest[0],
-            self.out.inside_mut(),
+            &mut self.out,
             self.result.inside_mut().try_into().expect("two numbers"),
         );
     }

@@ -49,12 +49,14 @@ const SORTS: [(Sort, &str); 15] = [
 ];
 
 const UNREADABLE: usize = 10;
-/// A record that no admission can have left, which a text cannot come to.
+/// A record that no admission can have left, and somebody who comes under another plan: a text, which has one plan, cannot come to
+/// either.
 const CORRUPT: usize = 7;
+const OTHER_PLAN: usize = 12;
 /// A wait that does not end within the clock.
 const OFF_CLOCK: usize = 13;
-const NUMBERS: [usize; 13] = [
-    0, 1, 2, 3, 4, 5, 6, CORRUPT, 8, 9, UNREADABLE, 11, OFF_CLOCK,
+const NUMBERS: [usize; 14] = [
+    0, 1, 2, 3, 4, 5, 6, CORRUPT, 8, 9, UNREADABLE, 11, OTHER_PLAN, OFF_CLOCK,
 ];
 
 /// Of `railcadence_transcribe`, by their numbers.
@@ -185,11 +187,13 @@ impl Tally {
 
     /// What cannot have occurred and did, in words.
     pub fn impossible(&self) -> Vec<String> {
-        let kinds = self.numbers.iter();
-        let found = kinds.filter(|kind| kind.2[place(CORRUPT)] > 0);
+        let mut found = Vec::new();
+        for (name, _, counts) in &self.numbers {
+            let so = |&number: &usize| counts[place(number)] > 0;
+            let impossible = [CORRUPT, OTHER_PLAN].into_iter().filter(so);
+            found.extend(impossible.map(|number| format!("{name} {number}")));
+        }
         found
-            .map(|(name, ..)| format!("{name} {CORRUPT}"))
-            .collect()
     }
 
     /// What should have occurred and did not, in words.

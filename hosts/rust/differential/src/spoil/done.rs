@@ -5,15 +5,16 @@ use crate::call::Call;
 use crate::choose::LAST;
 use crate::engine::Engine;
 use crate::lent::Lent;
+use crate::list::List;
 use crate::out::Out;
 use model::checks::MOST_SLOTS;
 use model::plan::Plan;
 use model::table::{Answer, Table};
 use std::array;
 
-/// The table before and after, and the answer.
+/// The plans, the table before and after, and the answer.
 pub struct Done<'a, E> {
-    pub plan: &'a Plan,
+    pub list: &'a mut List,
     pub call: &'a Call,
     pub before: &'a Table<E>,
     pub after: &'a mut Lent,
@@ -28,21 +29,22 @@ impl<E: Engine> Done<'_, E> {
             Call::Clear => self.spoil_clear(fault),
         }
         match (fault, self.out[0]) {
-            (Fault::Nobody, 1..=7 | 9 | 11 | 13) => self.out[1] = 0,
-            (Fault::SlotsShort, 0 | 3..=9 | 11 | 13) if self.has(MOST_SLOTS) => self.refuse(2),
+            (Fault::Nobody, 1..=7 | 9 | 11..=13) => self.out[1] = 0,
+            (Fault::SlotsShort, 0 | 3..=9 | 11..=13) if self.has(MOST_SLOTS) => self.refuse(2),
             (Fault::SlotsBeyond, 2) if self.has(MOST_SLOTS + 1) => self.out[0] = 0,
             _ => (),
         }
         if let Some(moment) = self.call.moment() {
             self.spoil_newest(fault, moment);
         }
+        self.spoil_plans(fault);
     }
 
     /// What goes wrong about the newest moment in acquires and peeks alike.
     fn spoil_newest(&mut self, fault: Fault, moment: u64) {
         let newest = self.before.newest;
         match (fault, self.out[0]) {
-            (Fault::EqualEarly, 0 | 4..=9 | 13) if moment == newest => self.refuse(11),
+            (Fault::EqualEarly, 0 | 4..=9 | 12 | 13) if moment == newest => self.refuse(11),
             (Fault::EarlyLax, 11) if moment + 1 == newest => self.unchecked(),
             (Fault::EarlyFirst, 3) if moment < newest => self.out[0] = 11,
             (Fault::EarlyLast, 11) if self.call.subscriber() == 0 => self.out[0] = 4,
@@ -101,6 +103,10 @@ impl<E: Engine> Done<'_, E> {
                 self.after.ids.inside_mut()[last] = self.before.ids[last];
             }
             (Fault::ClearNewest, 0) => self.after.newest[0] = self.before.newest,
+            (Fault::ClearNumbers, 0) => {
+                let numbers = &self.before.plan_numbers;
+                self.after.plan_numbers.copy_from_slice(numbers);
+            }
             (Fault::ClearEager, 2) => self.after.newest[0] = 0,
             _ => (),
         }
@@ -109,11 +115,22 @@ impl<E: Engine> Done<'_, E> {
     /// Whether each column has so many slots.
     fn has(&self, slots: usize) -> bool {
         let mut lengths = self.before.columns.iter().map(Vec::len);
-        self.before.ids.len() == slots && lengths.all(|length| length == slots)
+        self.before.ids.len() == slots
+            && self.before.plan_numbers.len() == slots
+            && lengths.all(|length| length == slots)
+    }
+
+    /// The plan asked for, in a good list.
+    fn asked(&self) -> Option<Plan> {
+        let plans = self.list.plans();
+        self.call
+            .plan()
+            .and_then(|plan| plans.numbered(plan))
+            .copied()
     }
 
     /// Answers with this number, and leaves the table as it was before.
-    fn refuse(&mut self, number: u64) {
+    pub fn refuse(&mut self, number: u64) {
         *self.after = Lent::new(self.before);
         let subscriber = self.out[1];
         self.out.copy_from_slice(&[number, subscriber, 0, 0, 0]);
@@ -121,10 +138,11 @@ impl<E: Engine> Done<'_, E> {
 
     /// Answers as if the clock ended elsewhere.
     fn deny(&mut self, fault: Fault, moment: u128) {
+        let Some(plan) = self.asked() else { return };
         let record = E::load(&self.before.columns, self.own());
-        let debt = record.debt(self.plan, moment);
+        let debt = record.debt(&plan, moment);
         let mut answer: Answer = array::from_fn(|place| u128::from(self.out[place]));
-        move_the_end(fault, self.plan, self.call, debt, &mut answer);
+        move_the_end(fault, &plan, self.call, debt, &mut answer);
         self.write(answer);
     }
 
@@ -141,13 +159,13 @@ impl<E: Engine> Done<'_, E> {
     fn unchecked(&mut self) {
         let mut table = self.before.clone();
         table.newest = 0;
-        let answer = self.call.on(self.plan, &mut table);
+        let answer = self.call.on(self.list.plans(), &mut table);
         table.newest = self.before.newest;
         self.write(answer);
         *self.after = Lent::new(&table);
     }
 
-    fn write(&mut self, answer: Answer) {
+    pub fn write(&mut self, answer: Answer) {
         self.out
             .copy_from_slice(&answer.map(|number| number as u64));
     }
@@ -164,9 +182,9 @@ impl<E: Engine> Done<'_, E> {
         let columns = self.after.columns.iter();
         let columns: Vec<Vec<u64>> = columns.map(|column| column.inside().to_vec()).collect();
         let slot = self.own();
-        if slot < self.after.ids.inside().len() {
-            let debt = E::load(&columns, slot).debt(self.plan, moment);
-            self.out[3] = (moment + debt / self.plan.limit) as u64;
+        if let (Some(plan), true) = (self.asked(), slot < self.after.ids.len()) {
+            let debt = E::load(&columns, slot).debt(&plan, moment);
+            self.out[3] = (moment + debt / plan.limit) as u64;
         }
     }
 
@@ -180,11 +198,11 @@ impl<E: Engine> Done<'_, E> {
     /// Writes the subscriber's record as an admission of cost 0 would.
     fn refill(&mut self, moment: u128) {
         let (slot, mut table) = (self.own(), self.before.clone());
-        if slot == table.ids.len() {
+        let (Some(plan), true) = (self.asked(), slot < table.ids.len()) else {
             return;
-        }
+        };
         let record = E::load(&table.columns, slot);
-        if let Some(refilled) = record.spend(self.plan, moment, 0) {
+        if let Some(refilled) = record.spend(&plan, moment, 0) {
             refilled.store(&mut table.columns, slot);
             *self.after = Lent::new(&table);
         }
@@ -194,8 +212,10 @@ impl<E: Engine> Done<'_, E> {
     fn took_just_free(&self, moment: u128) -> bool {
         let slot = self.own();
         let before = self.before.ids[slot];
-        before != 0
-            && before != self.call.subscriber()
-            && E::load(&self.before.columns, slot).just_free(self.plan, moment)
+        let kept = self.before.plan_numbers[slot] as u32;
+        let record = E::load(&self.before.columns, slot);
+        let plan = self.list.plans().numbered(kept);
+        let just_free = plan.is_some_and(|plan| record.just_free(plan, moment));
+        before != 0 && before != self.call.subscriber() && just_free
     }
 }

@@ -4,7 +4,7 @@ use super::{Fault, Spoil};
 use crate::lending::{Lending, SHORT_OUTPUT, SHORT_TABLE, WRITTEN};
 use crate::text::begins_a_run;
 
-pub const FAULTS: [Fault; 18] = [
+pub const FAULTS: [Fault; 22] = [
     (
         "count-short",
         "a written text is one byte too short by its count",
@@ -56,6 +56,21 @@ pub const FAULTS: [Fault; 18] = [
         Spoil::Lends(beyond_cleared),
     ),
     (
+        "numbers-beyond",
+        "plan number 1023 is cleared, though the plan has fewer slots",
+        Spoil::Lends(numbers_beyond),
+    ),
+    (
+        "numbers-left",
+        "the plan numbers of the run are not cleared",
+        Spoil::Lends(numbers_left),
+    ),
+    (
+        "numbers-short",
+        "too few plan numbers are reported as written",
+        Spoil::Lends(numbers_short),
+    ),
+    (
         "refused-clears",
         "a refused first line makes the newest moment 0",
         Spoil::Lends(refused_clears),
@@ -69,6 +84,11 @@ pub const FAULTS: [Fault; 18] = [
         "outside-ids",
         "the word after the ids is written",
         Spoil::Lends(|l, _| l.table.ids.overrun(0)),
+    ),
+    (
+        "outside-numbers",
+        "the byte after the plan numbers is written",
+        Spoil::Lends(|l, _| l.table.plan_numbers.overrun(0)),
     ),
     (
         "outside-tats",
@@ -169,6 +189,24 @@ fn newest_late(lending: &mut Lending, text: &[u8]) {
 fn beyond_cleared(lending: &mut Lending, text: &[u8]) {
     if is(lending, WRITTEN) && begins_a_run(text) {
         lending.table.ids.inside_mut()[1023] = 0;
+    }
+}
+
+fn numbers_beyond(lending: &mut Lending, text: &[u8]) {
+    if is(lending, WRITTEN) && begins_a_run(text) {
+        lending.table.plan_numbers[1023] = 0;
+    }
+}
+
+fn numbers_left(lending: &mut Lending, text: &[u8]) {
+    if is(lending, WRITTEN) && begins_a_run(text) {
+        lending.table.plan_numbers[0] = 1;
+    }
+}
+
+fn numbers_short(lending: &mut Lending, _: &[u8]) {
+    if is(lending, SHORT_TABLE) && lending.table.plan_numbers.len() < 1024 {
+        result(lending)[0] = WRITTEN;
     }
 }
 

@@ -2,7 +2,7 @@
 
 use super::{reading, writing, Fault, Spoil};
 
-pub const FAULTS: [Fault; 32] = [
+pub const FAULTS: [Fault; 33] = [
     (
         "wait-short",
         "the wait under 8 is one too short",
@@ -37,6 +37,11 @@ pub const FAULTS: [Fault; 32] = [
         "corrupt-for-early",
         "7 in place of 11, by the second implementation too",
         Spoil::BothWrite(writing::corrupt_for_early),
+    ),
+    (
+        "owing-for-off-clock",
+        "12 in place of 13, by the second implementation too",
+        Spoil::BothWrite(writing::owing_for_off_clock),
     ),
     (
         "clock-short",

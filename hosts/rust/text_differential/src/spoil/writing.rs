@@ -70,6 +70,10 @@ pub fn corrupt_for_early(lines: &mut Lines, _: &[u8]) {
     each(lines, &["11"], |fields| fields[0] = "7".to_string());
 }
 
+pub fn owing_for_off_clock(lines: &mut Lines, _: &[u8]) {
+    each(lines, &["13"], |fields| fields[0] = "12".to_string());
+}
+
 /// In a run, line n of the output answers line n of the input.
 pub fn clock_short(lines: &mut Lines, input: &[u8]) {
     for (answer, ask) in lines.iter_mut().zip(text::lines(input)).skip(1) {
