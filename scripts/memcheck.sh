@@ -1,6 +1,6 @@
 #!/bin/sh
-# Runs what the compiler made of the proved code under valgrind, which checks every access to memory, and the C example in a
-# build with gcc's sanitizers. It takes a few minutes once the archive is built.
+# Runs what the compiler made of the proved code under valgrind, which checks every access to memory, and programs in C in
+# builds with gcc's sanitizers. It takes a few minutes once the archive is built.
 #   scripts/memcheck.sh [--seed N] [--calls N]   the words go to the comparison (default --seed 1 --calls 150000)
 set -eu
 root=$(cd "$(dirname "$0")/.." && pwd)
@@ -44,28 +44,45 @@ step "proving the C interface and the text program, and building them (some minu
 build_archive
 build_program
 
-step "valgrind itself: a column one number longer than its memory is found in every call"
+step "valgrind itself: a slice one element longer than its memory is found in every call"
 compile overlong.c overlong
-for call in gcra_acquire gcra_peek gcra_clear token_bucket_acquire token_bucket_peek token_bucket_clear; do
-    status=0
-    checked "$build/overlong" "$call" || status=$?
-    [ "$status" = $found ] || fail "valgrind does not notice that $call goes beyond a column"
-    grep -q 'Invalid \(read\|write\)' "$log" || fail "valgrind reports something else of $call: see $log"
+# overlong CALL SLICE..: each of these must be found in the call, and nothing where the memory is enough
+overlong() {
+    call=$1
+    shift
+    for slice in "$@"; do
+        status=0
+        checked "$build/overlong" "$call" "$slice" || status=$?
+        [ "$status" = $found ] || fail "valgrind does not notice that $call goes beyond $slice"
+        grep -q 'Invalid \(read\|write\)' "$log" || fail "valgrind reports something else of $call and $slice: see $log"
+    done
     clean "$call with enough memory" "$build/overlong" "$call" exact
+}
+for engine in gcra token_bucket; do
+    overlong ${engine}_acquire plans ids plan_numbers record
+    overlong ${engine}_peek plans ids plan_numbers record
+    overlong ${engine}_clear ids plan_numbers record
 done
 
-step "the C example under valgrind"
-compile example.c example
-clean "the C example" "$build/example" >"$output"
-cmp "$output" "$root/hosts/c/example.expected" || fail "under valgrind the C example prints something else"
+# as_expected NAME HOW: what was printed is what hosts/c/NAME.expected has
+as_expected() { cmp "$output" "$root/hosts/c/$1.expected" || fail "$2 hosts/c/$1.c prints something else"; }
 
-step "the C example with gcc's address and undefined behaviour sanitizers, which must find nothing, and a fault that they find"
+step "programs in C under valgrind: the example, several plans, tables in one block"
+for name in example plans tables; do
+    compile $name.c $name
+    clean "hosts/c/$name.c" "$build/$name" >"$output"
+    as_expected $name "under valgrind"
+done
+
+step "the same with gcc's address and undefined behaviour sanitizers, which must find nothing, and a fault that they find"
 sanitizers="-fsanitize=address,undefined -fno-sanitize-recover=all"
-compile example.c example_sanitized $sanitizers
-"$build/example_sanitized" >"$output" || fail "the sanitizers find an error in the C example: see above"
-cmp "$output" "$root/hosts/c/example.expected" || fail "with the sanitizers the C example prints something else"
+for name in example plans tables; do
+    compile $name.c ${name}_sanitized $sanitizers
+    "$build/${name}_sanitized" >"$output" || fail "the sanitizers find an error in hosts/c/$name.c: see above"
+    as_expected $name "with the sanitizers"
+done
 compile overlong.c overlong_sanitized $sanitizers
-if "$build/overlong_sanitized" gcra_clear 2>"$output"; then fail "the sanitizers do not notice a clear beyond a column"; fi
+if "$build/overlong_sanitized" gcra_clear record 2>"$output"; then fail "the sanitizers do not notice a clear beyond a column"; fi
 grep -q heap-buffer-overflow "$output" || fail "the sanitizers report something else of a clear beyond a column: see $output"
 
 step "the text program on examples/ under valgrind"

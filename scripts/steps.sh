@@ -55,10 +55,14 @@ build_rust() {
         fail "the package hosts/rust/$1 does not build"
 }
 
-# build_c NAME: builds hosts/c/NAME.c with the archive
+# build_c NAME: builds hosts/c/NAME.c with the archive. build_cpp NAME: builds it as C++, as NAME_cpp
+warnings="-O2 -Wall -Wextra -Wpedantic -Werror"
 build_c() {
-    gcc -std=c11 -O2 -Wall -Wextra -Wpedantic -Werror -o "$build/$1" "$root/hosts/c/$1.c" "$build/librailcadence_c.a" ||
-        fail "hosts/c/$1.c does not build"
+    gcc -std=c11 $warnings -o "$build/$1" "$root/hosts/c/$1.c" "$build/librailcadence_c.a" || fail "hosts/c/$1.c does not build"
+}
+build_cpp() {
+    g++ -std=c++11 $warnings -o "$build/$1_cpp" -x c++ "$root/hosts/c/$1.c" -x none "$build/librailcadence_c.a" ||
+        fail "hosts/c/$1.c does not build as C++"
 }
 
 # the archive as a shared library, for Python

@@ -14,14 +14,14 @@
 
 enum { SLOTS = 2 };
 
-static const uint32_t period = 1000, burst = 2;
 static const uint64_t last_moment = 4398046511103;
-static uint32_t limit = 3;
+static uint32_t plans[3] = {3, 1000, 2}; /* limit, period, burst */
 static size_t slots = SLOTS;
 
 /* both tables, as they are, and as they were before a call */
 static struct {
     uint32_t gcra_ids[SLOTS], bucket_ids[SLOTS];
+    uint8_t gcra_plan_numbers[SLOTS], bucket_plan_numbers[SLOTS];
     uint64_t tats[SLOTS], levels[SLOTS], lasts[SLOTS], gcra_newest, bucket_newest;
 } now, old;
 
@@ -45,12 +45,14 @@ static void print(const uint64_t gcra[RAILCADENCE_NUMBERS],
 static void acquire(uint64_t moment, uint32_t subscriber, uint32_t cost)
 {
     uint64_t gcra[RAILCADENCE_NUMBERS], bucket[RAILCADENCE_NUMBERS];
-    old = now;
-    railcadence_gcra_acquire(limit, period, burst, now.gcra_ids, slots, now.tats, slots,
-                             &now.gcra_newest, moment, subscriber, cost, gcra);
-    railcadence_token_bucket_acquire(limit, period, burst, now.bucket_ids, slots,
-                                     now.levels, slots, now.lasts, slots,
-                                     &now.bucket_newest, moment, subscriber, cost, bucket);
+    memcpy(&old, &now, sizeof old);
+    railcadence_gcra_acquire(plans, 3, now.gcra_ids, slots, now.gcra_plan_numbers, slots,
+                             now.tats, slots, &now.gcra_newest,
+                             moment, subscriber, 0, cost, gcra);
+    railcadence_token_bucket_acquire(plans, 3, now.bucket_ids, slots,
+                                     now.bucket_plan_numbers, slots,
+                                     now.levels, slots, now.lasts, slots, &now.bucket_newest,
+                                     moment, subscriber, 0, cost, bucket);
     printf("acquire %" PRIu64 " %" PRIu32 " %" PRIu32, moment, subscriber, cost);
     print(gcra, bucket);
 }
@@ -58,12 +60,12 @@ static void acquire(uint64_t moment, uint32_t subscriber, uint32_t cost)
 static void peek(uint64_t moment, uint32_t subscriber)
 {
     uint64_t gcra[RAILCADENCE_NUMBERS], bucket[RAILCADENCE_NUMBERS];
-    old = now;
-    railcadence_gcra_peek(limit, period, burst, now.gcra_ids, slots, now.tats, slots,
-                          &now.gcra_newest, moment, subscriber, gcra);
-    railcadence_token_bucket_peek(limit, period, burst, now.bucket_ids, slots,
-                                  now.levels, slots, now.lasts, slots,
-                                  &now.bucket_newest, moment, subscriber, bucket);
+    memcpy(&old, &now, sizeof old);
+    railcadence_gcra_peek(plans, 3, now.gcra_ids, slots, now.gcra_plan_numbers, slots,
+                          now.tats, slots, &now.gcra_newest, moment, subscriber, 0, gcra);
+    railcadence_token_bucket_peek(plans, 3, now.bucket_ids, slots, now.bucket_plan_numbers, slots,
+                                  now.levels, slots, now.lasts, slots, &now.bucket_newest,
+                                  moment, subscriber, 0, bucket);
     printf("peek %" PRIu64 " %" PRIu32, moment, subscriber);
     print(gcra, bucket);
 }
@@ -71,10 +73,11 @@ static void peek(uint64_t moment, uint32_t subscriber)
 static void clear(void)
 {
     uint64_t gcra[RAILCADENCE_NUMBERS], bucket[RAILCADENCE_NUMBERS];
-    old = now;
-    railcadence_gcra_clear(now.gcra_ids, slots, now.tats, slots, &now.gcra_newest, gcra);
-    railcadence_token_bucket_clear(now.bucket_ids, slots, now.levels, slots, now.lasts, slots,
-                                   &now.bucket_newest, bucket);
+    memcpy(&old, &now, sizeof old);
+    railcadence_gcra_clear(now.gcra_ids, slots, now.gcra_plan_numbers, slots, now.tats, slots,
+                           &now.gcra_newest, gcra);
+    railcadence_token_bucket_clear(now.bucket_ids, slots, now.bucket_plan_numbers, slots,
+                                   now.levels, slots, now.lasts, slots, &now.bucket_newest, bucket);
     printf("clear");
     print(gcra, bucket);
 }
@@ -110,9 +113,9 @@ static void load(void)
     slots = 0;
     acquire(0, 7, 1); /* and so does 2, */
     clear();          /* which leaves newest to a clear too, */
-    limit = 0;
+    plans[0] = 0;
     acquire(0, 7, 1); /* and 1 */
-    limit = 3;
+    plans[0] = 3;
     slots = SLOTS;
     clear(); /* the moments may begin anew */
     acquire(0, 7, 1);

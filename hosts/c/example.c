@@ -12,14 +12,17 @@
 
 #define SLOTS 1
 
-static const uint32_t limit = 3, period = 1000, burst = 2;
+/* limit, period and burst of plan 0, the only one */
+static const uint32_t plans[3] = {3, 1000, 2};
 
 /* GCRA's table */
 static uint32_t gcra_ids[SLOTS];
+static uint8_t gcra_plan_numbers[SLOTS];
 static uint64_t tats[SLOTS], gcra_newest;
 
 /* the token bucket's table */
 static uint32_t bucket_ids[SLOTS];
+static uint8_t bucket_plan_numbers[SLOTS];
 static uint64_t levels[SLOTS], lasts[SLOTS], bucket_newest;
 
 static void print_numbers(const uint64_t out[RAILCADENCE_NUMBERS])
@@ -41,9 +44,10 @@ static void print(const uint64_t gcra[RAILCADENCE_NUMBERS],
 static void clear(void)
 {
     uint64_t gcra[RAILCADENCE_NUMBERS], bucket[RAILCADENCE_NUMBERS];
-    railcadence_gcra_clear(gcra_ids, SLOTS, tats, SLOTS, &gcra_newest, gcra);
-    railcadence_token_bucket_clear(bucket_ids, SLOTS, levels, SLOTS, lasts, SLOTS, &bucket_newest,
-                                   bucket);
+    railcadence_gcra_clear(gcra_ids, SLOTS, gcra_plan_numbers, SLOTS, tats, SLOTS, &gcra_newest,
+                           gcra);
+    railcadence_token_bucket_clear(bucket_ids, SLOTS, bucket_plan_numbers, SLOTS,
+                                   levels, SLOTS, lasts, SLOTS, &bucket_newest, bucket);
     printf("clear");
     print(gcra, bucket);
 }
@@ -51,11 +55,11 @@ static void clear(void)
 static void acquire(uint64_t moment, uint32_t subscriber, uint32_t cost)
 {
     uint64_t gcra[RAILCADENCE_NUMBERS], bucket[RAILCADENCE_NUMBERS];
-    railcadence_gcra_acquire(limit, period, burst, gcra_ids, SLOTS, tats, SLOTS, &gcra_newest,
-                             moment, subscriber, cost, gcra);
-    railcadence_token_bucket_acquire(limit, period, burst, bucket_ids, SLOTS,
+    railcadence_gcra_acquire(plans, 3, gcra_ids, SLOTS, gcra_plan_numbers, SLOTS, tats, SLOTS,
+                             &gcra_newest, moment, subscriber, 0, cost, gcra);
+    railcadence_token_bucket_acquire(plans, 3, bucket_ids, SLOTS, bucket_plan_numbers, SLOTS,
                                      levels, SLOTS, lasts, SLOTS, &bucket_newest,
-                                     moment, subscriber, cost, bucket);
+                                     moment, subscriber, 0, cost, bucket);
     printf("acquire %" PRIu64 " %" PRIu32 " %" PRIu32, moment, subscriber, cost);
     print(gcra, bucket);
 }
@@ -63,11 +67,11 @@ static void acquire(uint64_t moment, uint32_t subscriber, uint32_t cost)
 static void peek(uint64_t moment, uint32_t subscriber)
 {
     uint64_t gcra[RAILCADENCE_NUMBERS], bucket[RAILCADENCE_NUMBERS];
-    railcadence_gcra_peek(limit, period, burst, gcra_ids, SLOTS, tats, SLOTS, &gcra_newest,
-                          moment, subscriber, gcra);
-    railcadence_token_bucket_peek(limit, period, burst, bucket_ids, SLOTS,
+    railcadence_gcra_peek(plans, 3, gcra_ids, SLOTS, gcra_plan_numbers, SLOTS, tats, SLOTS,
+                          &gcra_newest, moment, subscriber, 0, gcra);
+    railcadence_token_bucket_peek(plans, 3, bucket_ids, SLOTS, bucket_plan_numbers, SLOTS,
                                   levels, SLOTS, lasts, SLOTS, &bucket_newest,
-                                  moment, subscriber, bucket);
+                                  moment, subscriber, 0, bucket);
     printf("peek %" PRIu64 " %" PRIu32, moment, subscriber);
     print(gcra, bucket);
 }

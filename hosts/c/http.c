@@ -14,8 +14,9 @@
 static const uint64_t last_moment = 4398046511103;
 
 struct gate {
-    uint32_t limit, period, burst;
+    struct railcadence_plan plan;
     uint32_t ids[SLOTS];
+    uint8_t plan_numbers[SLOTS];
     uint64_t tats[SLOTS], newest;
 };
 
@@ -28,6 +29,7 @@ static const char *status(uint64_t number)
     case RAILCADENCE_COST_ABOVE_BURST: return "400 Bad Request";
     case RAILCADENCE_THROTTLED: return "429 Too Many Requests";
     case RAILCADENCE_NOT_ON_CLOCK: /* there is no time to come back at */
+    case RAILCADENCE_OTHER_PLAN:
     case RAILCADENCE_TABLE_FULL: return "503 Service Unavailable";
     default: return "500 Internal Server Error";
     }
@@ -48,9 +50,11 @@ static void print_fields(uint64_t number, const uint64_t field[RAILCADENCE_HTTP_
 static void respond(struct gate *gate, uint64_t moment, uint32_t subscriber, uint32_t cost)
 {
     uint64_t answer[RAILCADENCE_NUMBERS], field[RAILCADENCE_HTTP_FIELDS];
-    railcadence_gcra_acquire(gate->limit, gate->period, gate->burst, gate->ids, SLOTS, gate->tats,
-                             SLOTS, &gate->newest, moment, subscriber, cost, answer);
-    railcadence_http_fields(gate->limit, gate->period, gate->burst, moment, answer, field);
+    const struct railcadence_plan *plan = &gate->plan;
+    railcadence_gcra_acquire((const uint32_t *)plan, 3, gate->ids, SLOTS,
+                             gate->plan_numbers, SLOTS, gate->tats, SLOTS, &gate->newest,
+                             moment, subscriber, 0, cost, answer);
+    railcadence_http_fields(plan->limit, plan->period, plan->burst, moment, answer, field);
     printf("acquire %" PRIu64 " %" PRIu32 " %" PRIu32 "\n", moment, subscriber, cost);
     printf("HTTP/1.1 %s\n", status(answer[RAILCADENCE_NUMBER]));
     print_fields(answer[RAILCADENCE_NUMBER], field);
@@ -59,8 +63,8 @@ static void respond(struct gate *gate, uint64_t moment, uint32_t subscriber, uin
 
 int main(void)
 {
-    struct gate shop = { .limit = 3, .period = 1000, .burst = 2 };
-    struct gate slow = { .limit = 60, .period = 3600000, .burst = 12 };
+    struct gate shop = { .plan = {3, 1000, 2} };
+    struct gate slow = { .plan = {60, 3600000, 12} };
     respond(&shop, 1000, 7, 1);
     respond(&shop, 1000, 7, 1);
     respond(&shop, 1000, 7, 1); /* 334 ms to wait: a second */

@@ -12,41 +12,62 @@
  *     railcadence_may_retry
  *
  *     The archive is for x86-64 programs, and needs nothing but memset. C++ may include this file.
+ *     railcadence_tables.h beside it has the same calls with fewer arguments, on tables that keep
+ *     their plans and columns together.
  *
  * DESCRIPTION
  *     A plan allows `limit` units per `period` milliseconds, and up to `burst` units at once. A
- *     subscriber's request has a cost in units. The answer is that it is admitted, or for how many
- *     milliseconds it must wait, or why it is refused.
+ *     subscriber's request has a cost in units, and is made under one of up to 16 plans. The answer
+ *     is that it is admitted, or for how many milliseconds it must wait, or why it is refused.
  *
- *     Two engines keep a plan, GCRA and the token bucket, each with calls and columns of its own.
- *     On cleared tables with equally many slots, the same calls under one plan get the same
- *     answers from both, whatever their moments. GCRA stores one number a slot, the token bucket
- *     two. What each call does stands at its prototype. No clock is read: the moment is an
- *     argument.
+ *     Two engines keep plans, GCRA and the token bucket, each with calls and columns of its own. On
+ *     cleared tables with equally many slots, the same calls get the same answers from both,
+ *     whatever their moments, if the same plans are lent in all of them. GCRA stores one number a
+ *     slot, the token bucket two. What each call does stands at its prototype. No clock is read:
+ *     the moment is an argument.
  *
  * UNITS AND RANGES
  *     argument        least  most
- *     limit           1      1000000                   units
- *     period          1      2678400000 (31 days)      milliseconds
- *     burst           1      1000000                   units
- *     each .._len     1      65535, all the same       slots
+ *     plans_len       3      48, a multiple of 3       numbers, three for each plan:
+ *       limit         1      1000000                   units
+ *       period        1      2678400000 (31 days)      milliseconds
+ *       burst         1      1000000                   units
+ *     other .._len    1      65535, all the same       slots
  *     moment          0      4398046511103 (2^42 - 1)  milliseconds, from any fixed zero
  *     subscriber      1      4294967295                a number for whoever asks
- *     cost            1      burst                     units
+ *     plan            0      plans_len / 3 - 1         the number of a plan
+ *     cost            1      the plan's burst          units
  *
  *     Any values may be passed: outside these limits the answer says so, and nothing of the table
  *     is written.
+ *
+ * PLANS
+ *     The plans are lent together, 1 to 16 of them, as one array: limit, period and burst of plan
+ *     0, then of plan 1, and so on. An array of struct railcadence_plan has this layout, so a
+ *     pointer to it may be converted to one to uint32_t. If any plan among them is outside its
+ *     limits, every acquire and peek gets outcome 1, whichever plan it asks for.
+ *
+ *     An admission writes the number of its plan into the subscriber's slot, and what is owed there
+ *     is reckoned by that plan from then on. A subscriber that still owes is served under that plan
+ *     alone: under another it gets outcome 12. Once it owes nothing, any plan serves it, as if it
+ *     had never asked, and it keeps its slot. A peek under the slot's own plan says from when, by
+ *     its reset; if that is above the moment's limit, this clock ends before. Plans are told apart
+ *     by their numbers, though their values be the same.
+ *
+ *     So lend the same plans in every call on a table. Further ones may be added at their end.
+ *     Before a plan gets other values or another number, or is taken away, clear the table.
  *
  * THE TABLE
  *     Columns of one length, with an entry for each slot, and beside them one number, `newest`.
  *     Zeros everywhere are an empty table, and that is what a clear makes.
  *
- *     Slot i is ids[i] and the engine's record for it: tats[i] for GCRA, levels[i] and lasts[i] for
- *     the token bucket. A slot whose id is 0 is empty, whatever its other columns say. A subscriber
- *     without a slot gets the lowest free one when it is admitted. A slot is free if it is empty or
- *     its subscriber owes nothing any more, so a table needs as many slots as subscribers owe
- *     something at the same time. A call looks at the slots from the first on, so it takes longer
- *     the more there are.
+ *     Slot i is ids[i], plan_numbers[i] and the engine's record for it: tats[i] for GCRA, levels[i]
+ *     and lasts[i] for the token bucket. A slot whose id is 0 is empty, whatever its other columns
+ *     say. A subscriber without a slot gets the lowest free one when it is admitted. A slot is free
+ *     if it is empty, or if its subscriber owes nothing any more by the slot's own plan, so a table
+ *     needs as many slots as subscribers owe something at the same time. A slot that is not empty
+ *     and has the number of a plan that is not lent is not free. A call looks at the slots from the
+ *     first on, so it takes longer the more there are.
  *
  *     newest is the newest moment at which anything was admitted since the table was cleared,
  *     whoever the subscriber; 0 if nothing was. An admission writes its moment there, a clear
@@ -55,12 +76,12 @@
  *     is not earlier. Any value may be in newest; where it is above the moment's limit, every
  *     moment within the limit is refused so until a clear.
  *
- *     Tats and levels are counted in ticks. A millisecond is `limit` ticks and a unit costs
- *     `period` ticks, so keep a table to one plan, and clear it before it serves another.
+ *     Tats and levels are counted in ticks. Under a plan a millisecond is `limit` ticks and a unit
+ *     costs `period` ticks, so a record means nothing without its plan.
  *
  *     Between calls the columns and newest may be read, copied and saved, all of them together; a
- *     table that is loaded again goes on where it was. Its clock must go on too: where moments are
- *     counted from another zero, clear the table.
+ *     table that is loaded again goes on where it was, under the same plans. Its clock must go on
+ *     too: where moments are counted from another zero, clear the table.
  *
  * THE ANSWER
  *     Every call of an engine writes five numbers to out:
@@ -76,13 +97,15 @@
  *                                  same request is admitted, if nothing else is admitted meanwhile;
  *                                  otherwise 0
  *
- *     The first line that applies gives the outcome. Under 1 to 7, 9, 11 and 13, and in the answer
- *     to a clear, left, reset and wait are 0. 'retry' has yes where the same request may simply be
- *     made again later, and no where that does not help: the caller is at fault and has something
- *     to mend first, or, under 13, the clock ends too soon; railcadence_may_retry says the same.
+ *     The first line that applies gives the outcome. Under all but 8 and 0, and in the answer to a
+ *     clear, left, reset and wait are 0. 'retry' has yes where the same request may simply be made
+ *     again later, and no where that does not help: the caller is at fault and has something to
+ *     mend first, or, under 13, the clock ends too soon; railcadence_may_retry says the same.
  *
  *         retry
- *      1  no     RAILCADENCE_BAD_PLAN          limit, period or burst outside its limits
+ *      1  no     RAILCADENCE_BAD_PLAN          no plans or more than 16, a plan among them outside
+ *                                              its limits, a length that is no multiple of 3, or
+ *                                              the plan asked for is not lent
  *      2  no     RAILCADENCE_BAD_TABLE         the columns are of different lengths, or have too
  *                                              few or too many slots
  *      3  no     RAILCADENCE_LATE_MOMENT       the moment is above its limit
@@ -90,10 +113,14 @@
  *                                              and use one clock for a table
  *      4  no     RAILCADENCE_NO_SUBSCRIBER     subscriber 0
  *      5  no     RAILCADENCE_ZERO_COST         cost 0
- *      6  no     RAILCADENCE_COST_ABOVE_BURST  the cost can never be admitted
+ *      6  no     RAILCADENCE_COST_ABOVE_BURST  the cost is above the burst of the plan asked for,
+ *                                              and can never be admitted under it
  *      7  no     RAILCADENCE_CORRUPT_RECORD    the subscriber's own slot holds what no admission up
- *                                              to this moment can have left: the table is damaged,
- *                                              or the plan is another one; clear the table
+ *                                              to this moment can have left under the slot's plan,
+ *                                              or the number of a plan that is not lent: the table
+ *                                              is damaged, or other plans are lent; clear the table
+ *     12  yes    RAILCADENCE_OTHER_PLAN        the subscriber still owes under another plan: ask
+ *                                              under that one, or later, when nothing is owed
  *     13  no     RAILCADENCE_NOT_ON_CLOCK      not now, and the least wait ends above the moment's
  *                                              limit: it is not served while this clock lasts
  *      8  yes    RAILCADENCE_THROTTLED         not now: wait
@@ -104,31 +131,33 @@
  *                RAILCADENCE_CLEARED           of a clear: done
  *
  *     Under 13 there is no time to come back at. It comes only when less is left of the clock than
- *     the cost takes to be earned: near the moment's limit, or earlier under a plan that takes years
- *     for that. A smaller cost may be admitted, and after a clear the same one is. Where the clock is
- *     about to end, clear the table and count moments from a later zero.
+ *     the cost takes to be earned: near the moment's limit, or earlier under a plan that takes
+ *     years for that. A smaller cost may be admitted, and after a clear the same one is. Where the
+ *     clock is about to end, clear the table and count moments from a later zero.
  *
  *     Further numbers may come with further rules: treat one that you do not know as a refusal.
  *
  * MEMORY
  *     The caller owns all of it. Nothing is allocated, kept after the call, or freed.
  *
- *     Each column pointer must be aligned, and valid for as many elements as its length says: for
- *     reading, and for writing unless it is const. A column of length 0 may be NULL: it is neither
- *     read nor written, and the outcome is 2, or 1 if the plan is bad too. newest must be aligned,
- *     valid for reading one number, and for writing it unless it is const, and never NULL, whatever
- *     the lengths. out must be valid for writing five numbers, and not NULL; what it held does not
- *     matter. The columns, newest and out must not overlap each other.
+ *     plans and each column must be aligned, and valid for as many elements as its length says: for
+ *     reading, and for writing unless it is const. What has length 0 may be NULL: it is neither
+ *     read nor written, and the outcome is 1 for plans, and for a column 2, or 1 if that applies
+ *     too. newest must be aligned, valid for reading one number, and for writing it unless it is
+ *     const, and never NULL, whatever the lengths. out must be valid for writing five numbers, and
+ *     not NULL; what it held does not matter. plans, the columns, newest and out must not overlap
+ *     each other.
  *
  * THREADS
  *     One table serves one caller at a time: whoever calls from several threads holds a lock on
  *     the table, and reads the clock under it, since a moment that was read before another's
  *     admission may be earlier than that and get 11. Only peeks of a table may overlap each other.
- *     There is no global state, so different tables may be used at the same time.
+ *     There is no global state, so different tables may be used at the same time, and share plans.
  *
  * EXAMPLE
- *     shop.c beside this file is a short program, example.c a longer one with both engines; clock.c
- *     has a clock that goes back, and one that ends.
+ *     example.c beside this file asks both engines; plans.c has several plans in one table, clock.c
+ *     a clock that goes back, and one that ends. shop.c and museum.c are short programs over
+ *     railcadence_tables.h.
  */
 #ifndef RAILCADENCE_H
 #define RAILCADENCE_H
@@ -140,6 +169,16 @@
 #ifdef __cplusplus
 extern "C" {
 #endif
+
+/* A plan, and how many may be lent together. */
+struct railcadence_plan {
+    uint32_t limit, period, burst;
+};
+
+enum { RAILCADENCE_MOST_PLANS = 16 };
+
+/* The most slots of a table. */
+enum { RAILCADENCE_MOST_SLOTS = 65535 };
 
 /* The places of the five numbers in out, and how many there are. */
 enum {
@@ -166,13 +205,16 @@ enum {
     RAILCADENCE_THROTTLED = 8,
     RAILCADENCE_TABLE_FULL = 9,
     RAILCADENCE_EARLY_MOMENT = 11,
+    RAILCADENCE_OTHER_PLAN = 12,
     RAILCADENCE_NOT_ON_CLOCK = 13
 };
 
-/* Whether the same request may simply be made again later: under 8, after the wait, and under 9. */
+/* Whether the same request may simply be made again later: under 8, after the wait, under 9, and
+ * under 12, when nothing is owed any more. */
 static inline bool railcadence_may_retry(uint64_t number)
 {
-    return number == RAILCADENCE_THROTTLED || number == RAILCADENCE_TABLE_FULL;
+    return number == RAILCADENCE_THROTTLED || number == RAILCADENCE_TABLE_FULL ||
+           number == RAILCADENCE_OTHER_PLAN;
 }
 
 /* The GCRA engine. Its record is one number, the TAT: the moment at which nothing is owed any more,
@@ -180,24 +222,27 @@ static inline bool railcadence_may_retry(uint64_t number)
 
 /* Decides on a request, and spends its cost if it is admitted. Only outcome 0 writes in the
  * table: the subscriber's slot, and the moment in newest. */
-void railcadence_gcra_acquire(uint32_t limit, uint32_t period, uint32_t burst,
+void railcadence_gcra_acquire(const uint32_t *plans, size_t plans_len,
                               uint32_t *ids, size_t ids_len,
+                              uint8_t *plan_numbers, size_t plan_numbers_len,
                               uint64_t *tats, size_t tats_len, uint64_t *newest,
-                              uint64_t moment, uint32_t subscriber, uint32_t cost,
+                              uint64_t moment, uint32_t subscriber, uint32_t plan, uint32_t cost,
                               uint64_t out[RAILCADENCE_NUMBERS]);
 
-/* Reports what a subscriber has left and when nothing is owed, and spends nothing: outcomes 1 to 4,
- * 7 and 11, otherwise 0. A subscriber without a slot has the whole burst left. Nothing of the table
- * is written. */
-void railcadence_gcra_peek(uint32_t limit, uint32_t period, uint32_t burst,
+/* Reports what a subscriber has left under a plan and when nothing is owed, and spends nothing:
+ * outcomes 1 to 4, 7, 11 and 12, otherwise 0. A subscriber without a slot has the plan's whole
+ * burst left, and so has one that owes nothing. Nothing of the table is written. */
+void railcadence_gcra_peek(const uint32_t *plans, size_t plans_len,
                            const uint32_t *ids, size_t ids_len,
+                           const uint8_t *plan_numbers, size_t plan_numbers_len,
                            const uint64_t *tats, size_t tats_len, const uint64_t *newest,
-                           uint64_t moment, uint32_t subscriber,
+                           uint64_t moment, uint32_t subscriber, uint32_t plan,
                            uint64_t out[RAILCADENCE_NUMBERS]);
 
 /* Makes every column all zeros and newest 0, outcome 0; or outcome 2, and nothing of the table is
  * written. */
 void railcadence_gcra_clear(uint32_t *ids, size_t ids_len,
+                            uint8_t *plan_numbers, size_t plan_numbers_len,
                             uint64_t *tats, size_t tats_len, uint64_t *newest,
                             uint64_t out[RAILCADENCE_NUMBERS]);
 
@@ -205,21 +250,24 @@ void railcadence_gcra_clear(uint32_t *ids, size_t ids_len,
  * ticks, of which a full bucket has period * burst; and the moment of that admission, in
  * milliseconds. Its calls are those of GCRA with one column more. */
 
-void railcadence_token_bucket_acquire(uint32_t limit, uint32_t period, uint32_t burst,
+void railcadence_token_bucket_acquire(const uint32_t *plans, size_t plans_len,
                                       uint32_t *ids, size_t ids_len,
+                                      uint8_t *plan_numbers, size_t plan_numbers_len,
                                       uint64_t *levels, size_t levels_len,
                                       uint64_t *lasts, size_t lasts_len, uint64_t *newest,
-                                      uint64_t moment, uint32_t subscriber, uint32_t cost,
-                                      uint64_t out[RAILCADENCE_NUMBERS]);
+                                      uint64_t moment, uint32_t subscriber, uint32_t plan,
+                                      uint32_t cost, uint64_t out[RAILCADENCE_NUMBERS]);
 
-void railcadence_token_bucket_peek(uint32_t limit, uint32_t period, uint32_t burst,
+void railcadence_token_bucket_peek(const uint32_t *plans, size_t plans_len,
                                    const uint32_t *ids, size_t ids_len,
+                                   const uint8_t *plan_numbers, size_t plan_numbers_len,
                                    const uint64_t *levels, size_t levels_len,
                                    const uint64_t *lasts, size_t lasts_len, const uint64_t *newest,
-                                   uint64_t moment, uint32_t subscriber,
+                                   uint64_t moment, uint32_t subscriber, uint32_t plan,
                                    uint64_t out[RAILCADENCE_NUMBERS]);
 
 void railcadence_token_bucket_clear(uint32_t *ids, size_t ids_len,
+                                    uint8_t *plan_numbers, size_t plan_numbers_len,
                                     uint64_t *levels, size_t levels_len,
                                     uint64_t *lasts, size_t lasts_len, uint64_t *newest,
                                     uint64_t out[RAILCADENCE_NUMBERS]);
@@ -227,13 +275,15 @@ void railcadence_token_bucket_clear(uint32_t *ids, size_t ids_len,
 /* The tabbed text: a plan line and asks, as the program railcadence reads them on standard input;
  * here a whole text at once, from memory to memory.
  *
- * Writes to out what the program prints: the header, and a line for each answer. ids, tats and
- * newest are the GCRA table: a good first line clears as many slots as it names and makes newest 0,
- * and the asks use these. The other slots stay as they were, and so do all slots and newest if
- * there is no good first line. Bytes of out after the text stay, and no NUL is added.
+ * Writes to out what the program prints: the header, and a line for each answer. ids, plan_numbers,
+ * tats and newest are the GCRA table: a good first line clears as many slots as it names and makes
+ * newest 0, and the asks use these, under the one plan of the text, which has number 0. The other
+ * slots stay as they were, and so do all slots and newest if there is no good first line. Bytes of
+ * out after the text stay, and no NUL is added.
  *
- *     ids_len, tats_len  at least 1024 each, however few slots the text names; they may differ
- *     out_len            at least 35 + 105 * (n + 1), where n is the number of LFs in text
+ *     ids_len, plan_numbers_len, tats_len
+ *              at least 1024 each, however few slots the text names; they may differ
+ *     out_len  at least 35 + 105 * (n + 1), where n is the number of LFs in text
  *
  * Any bytes are a text, none too. result gets two numbers:
  *
@@ -259,6 +309,7 @@ enum {
 
 void railcadence_transcribe(const uint8_t *text, size_t text_len,
                             uint32_t *ids, size_t ids_len,
+                            uint8_t *plan_numbers, size_t plan_numbers_len,
                             uint64_t *tats, size_t tats_len, uint64_t *newest,
                             uint8_t *out, size_t out_len,
                             uint64_t result[RAILCADENCE_TEXT_NUMBERS]);

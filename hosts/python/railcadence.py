@@ -1,10 +1,12 @@
 """Railcadence from Python: a rate limiter in which every answer and every stored number is proved.
 
+    plans = Plans([Plan(limit=3, period=1000, burst=2)])
     table = Gcra(slots=300)
-    answer = table.acquire(Plan(limit=3, period=1000, burst=2), moment=1000, subscriber=7, cost=1)
+    answer = table.acquire(plans, moment=1000, subscriber=7, plan=0, cost=1)
 
 hosts/c/railcadence.h says what each argument is, its limits, and what an answer's numbers mean. What is outside its
-limits is answered like anything else; only what does not fit the 32 or 64 bits of an argument is a ValueError.
+limits is answered like anything else; only bad plans, and what does not fit the 32 or 64 bits of an argument, are a
+ValueError.
 
 A call holds Python's global lock, so threads may share a table. They should read the clock and call under a lock of their
 own: a moment that was read before another thread's admission may be earlier than that, and is then refused.
@@ -16,10 +18,10 @@ from __future__ import annotations
 
 import operator
 import os
-from ctypes import POINTER, Array, PyDLL, c_size_t, c_uint16, c_uint32, c_uint64
+from ctypes import POINTER, Array, PyDLL, c_size_t, c_uint8, c_uint16, c_uint32, c_uint64
 from enum import IntEnum
 from pathlib import Path
-from typing import Any, Callable, ClassVar, List, NamedTuple, Optional, Tuple, Union
+from typing import Any, Callable, ClassVar, Iterable, List, NamedTuple, Optional, Tuple, Union
 
 
 class Number(IntEnum):
@@ -36,18 +38,19 @@ class Number(IntEnum):
     THROTTLED = 8
     TABLE_FULL = 9
     EARLY_MOMENT = 11
+    OTHER_PLAN = 12
     NOT_ON_CLOCK = 13
 
 
 (ADMITTED, BAD_PLAN, BAD_TABLE, LATE_MOMENT, NO_SUBSCRIBER, ZERO_COST, COST_ABOVE_BURST, CORRUPT_RECORD, THROTTLED,
- TABLE_FULL, EARLY_MOMENT, NOT_ON_CLOCK) = Number
+ TABLE_FULL, EARLY_MOMENT, OTHER_PLAN, NOT_ON_CLOCK) = Number
 
 
 def may_retry(number: int) -> bool:
-    """Whether the same request may simply be made again later: throttled, after the wait, or the table was full. Under any
-    other refusal that does not help: the caller is at fault and has something to mend first, or, under NOT_ON_CLOCK, no
-    moment of this clock will admit the request."""
-    return number in (THROTTLED, TABLE_FULL)
+    """Whether the same request may simply be made again later: throttled, after the wait, the table was full, or the
+    subscriber still owed under another plan. Under any other refusal that does not help: the caller is at fault and has
+    something to mend first, or, under NOT_ON_CLOCK, no moment of this clock will admit the request."""
+    return number in (THROTTLED, TABLE_FULL, OTHER_PLAN)
 
 
 def _known(number: int) -> int:
@@ -134,9 +137,45 @@ def _fits(kind: Callable[[int], Any], **arguments: int) -> List[int]:
     return [operator.index(value) for value in arguments.values()]
 
 
-_PLAN = [c_uint32] * 3
+class Plans:
+    """1 to 16 plans, all within their limits, that are lent to a call together: a ValueError says what is wrong. A request is
+    made under one of them, which it names by its number: the first is 0.
+
+    A slot keeps the number of the plan under which its subscriber was admitted last, and what is owed there is reckoned by
+    that plan. Who still owes and asks under another gets OTHER_PLAN; who owes nothing may ask under any, and keeps its slot.
+    Plans are told apart by their numbers, though their values be the same.
+
+    So lend the same plans in every call on a table. Further ones may be added at their end; before one gets other values or
+    another number, or is taken away, clear the table.
+    """
+
+    _MOST = 16
+    _LIMITS: ClassVar[Plan] = Plan(limit=1_000_000, period=2_678_400_000, burst=1_000_000)
+
+    def __init__(self, plans: Iterable[Plan]) -> None:
+        self._plans = tuple(plans)
+        if not 1 <= len(self._plans) <= self._MOST:
+            raise ValueError(f"there are {len(self._plans)} plans; there must be 1 to {self._MOST}")
+        values = [value for number, plan in enumerate(self._plans) for value in self._checked(number, plan)]
+        self._values = (c_uint32 * len(values))(*values)
+
+    @classmethod
+    def _checked(cls, number: int, plan: Plan) -> List[int]:
+        for name, value, most in zip(Plan._fields, plan, cls._LIMITS):
+            if not 1 <= operator.index(value) <= most:
+                raise ValueError(f"{name} of plan {number} is {value}; it must be a whole number from 1 to {most}")
+        return [operator.index(value) for value in plan]
+
+    def __len__(self) -> int:
+        return len(self._plans)
+
+    def __getitem__(self, number: int) -> Plan:
+        """The plan with this number."""
+        return self._plans[number]
+
+
 _NUMBERS = POINTER(c_uint64)
-_http_fields = _function("http_fields", *_PLAN, c_uint64, _NUMBERS, _NUMBERS)
+_http_fields = _function("http_fields", c_uint32, c_uint32, c_uint32, c_uint64, _NUMBERS, _NUMBERS)
 
 
 def http_fields(plan: Plan, moment: int, answer: Union[Answer, Report]) -> HttpFields:
@@ -149,17 +188,20 @@ def http_fields(plan: Plan, moment: int, answer: Union[Answer, Report]) -> HttpF
 
 
 class _Table:
-    """The columns, `ids` and those of the engine's record, the newest moment, and the engine's calls on them."""
+    """The columns, `ids`, `plan_numbers` and those of the engine's record, the newest moment, and the engine's calls on
+    them."""
 
     _records: ClassVar[Tuple[str, ...]]
     _acquire: ClassVar[Callable[..., None]]
     _peek: ClassVar[Callable[..., None]]
     _clear: ClassVar[Callable[..., None]]
     ids: Array[c_uint32]
+    plan_numbers: Array[c_uint8]
 
     def __init__(self, slots: int) -> None:
         (slots,) = _fits(c_uint16, slots=slots)
         self.ids = (c_uint32 * slots)()
+        self.plan_numbers = (c_uint8 * slots)()
         for record in self._records:
             setattr(self, record, (c_uint64 * slots)())
         self._newest = c_uint64(0)
@@ -174,16 +216,16 @@ class _Table:
     def newest(self, newest: int) -> None:
         (self._newest.value,) = _fits(c_uint64, newest=newest)
 
-    def acquire(self, plan: Plan, moment: int, subscriber: int, cost: int) -> Answer:
-        """Decides on a request for `cost` units, and spends them if it is admitted."""
-        asked = _fits(c_uint64, moment=moment) + _fits(c_uint32, subscriber=subscriber, cost=cost)
-        number, *others = self._call(self._acquire, _fits(c_uint32, **plan._asdict()), asked)
+    def acquire(self, plans: Plans, moment: int, subscriber: int, plan: int, cost: int) -> Answer:
+        """Decides on a request for `cost` units under the plan with this number, and spends them if it is admitted."""
+        asked = _fits(c_uint64, moment=moment) + _fits(c_uint32, subscriber=subscriber, plan=plan, cost=cost)
+        number, *others = self._call(self._acquire, [plans._values], asked)
         return Answer(_known(number), *others)
 
-    def peek(self, plan: Plan, moment: int, subscriber: int) -> Report:
-        """Reports what a subscriber has left, and spends nothing."""
-        asked = _fits(c_uint64, moment=moment) + _fits(c_uint32, subscriber=subscriber)
-        number, who, left, reset, _ = self._call(self._peek, _fits(c_uint32, **plan._asdict()), asked)
+    def peek(self, plans: Plans, moment: int, subscriber: int, plan: int) -> Report:
+        """Reports what a subscriber has left under the plan with this number, and spends nothing."""
+        asked = _fits(c_uint64, moment=moment) + _fits(c_uint32, subscriber=subscriber, plan=plan)
+        number, who, left, reset, _ = self._call(self._peek, [plans._values], asked)
         return Report(_refusal(number), who, left, reset)
 
     def clear(self) -> Optional[int]:
@@ -191,37 +233,40 @@ class _Table:
         BAD_TABLE, and changes nothing."""
         return _refusal(self._call(self._clear, [], [])[0])
 
-    def _call(self, function: Callable[..., None], plan: List[int], asked: List[int]) -> List[int]:
-        """The five numbers that a function of the library gives."""
-        columns = [self.ids] + [getattr(self, record) for record in self._records]
-        lent = [part for column in columns for part in (column, len(column))]
+    def _call(self, function: Callable[..., None], plans: List[Array[c_uint32]], asked: List[int]) -> List[int]:
+        """The five numbers that a function of the library gives; a clear is lent no plans."""
+        records = [getattr(self, record) for record in self._records]
+        lent = [part for lend in [*plans, self.ids, self.plan_numbers, *records] for part in (lend, len(lend))]
         out = (c_uint64 * 5)()
-        function(*plan, *lent, self._newest, *asked, out)
+        function(*lent, self._newest, *asked, out)
         return list(out)
 
 
-_IDS = [POINTER(c_uint32), c_size_t]
+_PLANS = _IDS = [POINTER(c_uint32), c_size_t]
+_PLAN_NUMBERS = [POINTER(c_uint8), c_size_t]
 _RECORD = [POINTER(c_uint64), c_size_t]
-_GCRA = [*_IDS, *_RECORD, POINTER(c_uint64)]
-_TOKEN_BUCKET = [*_IDS, *_RECORD, *_RECORD, POINTER(c_uint64)]
+_GCRA = [*_IDS, *_PLAN_NUMBERS, *_RECORD, POINTER(c_uint64)]
+_TOKEN_BUCKET = [*_IDS, *_PLAN_NUMBERS, *_RECORD, *_RECORD, POINTER(c_uint64)]
+_ACQUIRED = [c_uint64, c_uint32, c_uint32, c_uint32, _NUMBERS]
+_PEEKED = [c_uint64, c_uint32, c_uint32, _NUMBERS]
 
 
 class Gcra(_Table):
-    """A table of the GCRA engine: columns `ids` and `tats`, and `newest`."""
+    """A table of the GCRA engine: columns `ids`, `plan_numbers` and `tats`, and `newest`."""
 
     _records = ("tats",)
-    _acquire = _function("gcra_acquire", *_PLAN, *_GCRA, c_uint64, c_uint32, c_uint32, _NUMBERS)
-    _peek = _function("gcra_peek", *_PLAN, *_GCRA, c_uint64, c_uint32, _NUMBERS)
+    _acquire = _function("gcra_acquire", *_PLANS, *_GCRA, *_ACQUIRED)
+    _peek = _function("gcra_peek", *_PLANS, *_GCRA, *_PEEKED)
     _clear = _function("gcra_clear", *_GCRA, _NUMBERS)
     tats: Array[c_uint64]
 
 
 class TokenBucket(_Table):
-    """A table of the token bucket engine: columns `ids`, `levels` and `lasts`, and `newest`."""
+    """A table of the token bucket engine: columns `ids`, `plan_numbers`, `levels` and `lasts`, and `newest`."""
 
     _records = ("levels", "lasts")
-    _acquire = _function("token_bucket_acquire", *_PLAN, *_TOKEN_BUCKET, c_uint64, c_uint32, c_uint32, _NUMBERS)
-    _peek = _function("token_bucket_peek", *_PLAN, *_TOKEN_BUCKET, c_uint64, c_uint32, _NUMBERS)
+    _acquire = _function("token_bucket_acquire", *_PLANS, *_TOKEN_BUCKET, *_ACQUIRED)
+    _peek = _function("token_bucket_peek", *_PLANS, *_TOKEN_BUCKET, *_PEEKED)
     _clear = _function("token_bucket_clear", *_TOKEN_BUCKET, _NUMBERS)
     levels: Array[c_uint64]
     lasts: Array[c_uint64]

@@ -3,12 +3,12 @@
 
 use crate::archive;
 use crate::call::{Answer, Ask, Plan};
-use crate::load::{Load, PLAN, START};
+use crate::load::{Load, START};
 use crate::plain::search::{Index, Position};
 use crate::plain::{gcra, token_bucket};
 use crate::table::Table;
 
-pub type Acquire = fn(&Plan, &mut Table, &Ask, &mut Answer);
+pub type Acquire = fn(&[Plan], &mut Table, &Ask, &mut Answer);
 
 pub struct Contender {
     pub acquire: Acquire,
@@ -28,6 +28,7 @@ impl Engine {
     pub fn used_table(&self, slots: usize) -> Table {
         Table {
             ids: vec![7; slots],
+            plan_numbers: vec![7; slots],
             records: vec![7; slots],
             lasts: vec![7; if self.has_lasts { slots } else { 0 }],
             newest: 7,
@@ -39,13 +40,16 @@ impl Engine {
         let mut table = self.used_table(load.slots);
         table.fill_with_zeros();
         table.newest = START;
-        let held = load.holders.len();
-        table.ids[..held].copy_from_slice(&load.holders);
-        if self.has_lasts {
-            table.lasts[..held].fill(START); // and the level is 0
-        } else {
-            let burst = PLAN.period as u64 * PLAN.burst as u64;
-            table.records[..held].fill(START * PLAN.limit as u64 + burst);
+        let plans = (0..).zip(load.plans).cycle();
+        for (slot, (&holder, (number, plan))) in load.holders.iter().zip(plans).enumerate() {
+            table.ids[slot] = holder;
+            table.plan_numbers[slot] = number;
+            if self.has_lasts {
+                table.lasts[slot] = START; // and the level is 0
+            } else {
+                let [limit, period, burst] = plan.map(u64::from);
+                table.records[slot] = START * limit + period * burst;
+            }
         }
         table
     }

@@ -1,6 +1,6 @@
 //! How many instructions an acquire takes, as valgrind counts them, whatever else the machine does.
 
-use crate::load::{Load, PLAN};
+use crate::load::Load;
 use crate::time::run_asks;
 use crate::{pairs, Options};
 use std::env;
@@ -20,7 +20,7 @@ pub fn print(options: &Options) -> Result<(), String> {
         "instructions per acquire, with those of the loop that asks, and proved divided by plain"
     );
     println!(
-        "{:16} {:13} {:>10} {:>10} {:>10} {:>12} {:>10}",
+        "{:17} {:13} {:>10} {:>10} {:>10} {:>12} {:>10}",
         "load", "engine", "proved", "index loop", "position", "/ index loop", "/ position"
     );
     for (place, (kind, engine)) in pairs().enumerate() {
@@ -29,7 +29,7 @@ pub fn print(options: &Options) -> Result<(), String> {
         let (proved, index, position) = (each(0)?, each(1)?, each(2)?);
         let (to_index, to_position) = (proved / index, proved / position);
         let (load, engine) = (kind.name, engine.name);
-        println!("{load:16} {engine:13} {proved:10.0} {index:10.0} {position:10.0} {to_index:12.2} {to_position:10.2}");
+        println!("{load:17} {engine:13} {proved:10.0} {index:10.0} {position:10.0} {to_index:12.2} {to_position:10.2}");
     }
     Ok(())
 }
@@ -52,6 +52,7 @@ pub fn ask_one(options: &Options, place: usize) -> Result<(), String> {
     let (kind, engine) = pairs().nth(place / 3).ok_or("there are not so many")?;
     let load = Load::new(kind, options.seed, options.asks);
     let acquire = engine.contenders[place % 3].acquire;
-    run_asks(acquire, &PLAN, &mut engine.spent_table(&load), &load.asks);
+    let table = &mut engine.spent_table(&load);
+    run_asks(acquire, load.plans, table, &load.asks);
     Ok(())
 }

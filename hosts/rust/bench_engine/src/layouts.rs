@@ -26,7 +26,7 @@ pub fn run(builds: &[String], words: &[String]) -> Result<Vec<Vec<Row>>, String>
 
 pub fn print(builds: &[Vec<Row>]) {
     println!(
-        "{:16} {:13} {:>22} {:>22} {:>22} {:>20} {:>5} {:>20}   answered",
+        "{:17} {:13} {:>22} {:>22} {:>22} {:>20} {:>5} {:>20}   answered",
         "load", "engine", "proved", "index loop", "position", "/ index loop", "asked", "/ position"
     );
     for place in 0..builds.first().map_or(0, Vec::len) {
@@ -51,7 +51,7 @@ fn print_row(rows: &[&Row]) {
     let times = times.map(|times| cell(&times, 0)).join(" ");
     let [to_index, to_position] = ratios.map(|ratios| cell(&ratios, 2));
     let asked = asked(load);
-    println!("{load:16} {engine:13} {times} {to_index} {asked:>5} {to_position}   {answered}");
+    println!("{load:17} {engine:13} {times} {to_index} {asked:>5} {to_position}   {answered}");
 }
 
 /// The median, the least and the most of some numbers in order.

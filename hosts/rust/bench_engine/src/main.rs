@@ -11,13 +11,15 @@ mod draws;
 mod layouts;
 mod load;
 mod plain;
+mod plans;
 mod row;
 mod table;
 mod time;
 
 use compare::NUMBERS;
 use contender::{Engine, ENGINES};
-use load::{Kind, Load, KINDS, PLAN};
+use load::{Kind, Load, KINDS};
+use plans::ONE;
 use row::Row;
 use std::env;
 use std::process::ExitCode;
@@ -25,7 +27,7 @@ use std::process::ExitCode;
 const USAGE: &str = "\
 bench_engine [--asks N] [--rounds N] [--seed N] [--count | BUILD..]
   Asks the proved archive and two plain limiters the same, in turns, and compares all answers and the final tables.
-  --asks N    how many asks of each load (default 50000), and a tenth of it on 65535 slots
+  --asks N    how many asks of each load (default 50000); a tenth of it on 65535 slots, a fifth where sixteen plans fill 4096
   --rounds N  how often each is timed (default 5, the least)
   --seed N    draws other asks (default 1)
   --count     has valgrind count the instructions, in place of a comparison and times
@@ -53,10 +55,13 @@ impl Options {
 
     /// What is asked of every contender.
     fn terms(&self) -> String {
+        let [[limit, period, burst]] = ONE;
         format!(
-            "{} units in {} ms, burst {}; 4096 slots, but 'shops' has 300, '1024' so many and 'most' 65535; {} asks of each load, \
-             a tenth of it where it is 'most'; seed {}",
-            PLAN.limit, PLAN.period, PLAN.burst, self.asks, self.seed
+            "{limit} units in {period} ms, burst {burst}; sixteen plans that differ in their bursts alone where it is 'bursts', and \
+             sixteen that differ widely where it is 'plans'\n\
+             4096 slots, but 'shops' has 300, '1024' so many, 'most' 65535 and 'first slot' 16; {} asks of each load, a tenth of it \
+             where it is 'most', and a fifth where sixteen plans fill the table; seed {}",
+            self.asks, self.seed
         )
     }
 }

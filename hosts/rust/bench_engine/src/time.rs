@@ -4,7 +4,7 @@ use crate::call::{Ask, Plan};
 use crate::clock;
 use crate::compare::Agreed;
 use crate::contender::{Acquire, Contender, Engine};
-use crate::load::{Load, PLAN};
+use crate::load::Load;
 use crate::table::Table;
 use std::hint::black_box;
 
@@ -35,23 +35,23 @@ pub fn sorted(mut times: Vec<f64>) -> Vec<f64> {
 
 /// Clears the table and fills it, and times the asks alone.
 fn round(contender: &Contender, table: &mut Table, load: &Load, start: &Table) -> f64 {
-    let plan = black_box(PLAN);
+    let plans = black_box(load.plans);
     (contender.clear)(table);
-    run_asks(contender.acquire, &plan, table, &load.warm_up);
+    run_asks(contender.acquire, plans, table, &load.warm_up);
     if load.warm_up.is_empty() {
         table.copy_from(start);
     }
     let begun = clock::now();
-    run_asks(contender.acquire, &plan, table, &load.asks);
+    run_asks(contender.acquire, plans, table, &load.asks);
     (clock::now() - begun) / load.asks.len() as f64
 }
 
 /// A function of its own, by whose name valgrind finds what it is to count.
 #[inline(never)]
-pub fn run_asks(acquire: Acquire, plan: &Plan, table: &mut Table, asks: &[Ask]) {
+pub fn run_asks(acquire: Acquire, plans: &[Plan], table: &mut Table, asks: &[Ask]) {
     let (acquire, mut out) = (black_box(acquire), [0; 5]);
     for ask in asks {
-        acquire(plan, table, ask, &mut out);
+        acquire(plans, table, ask, &mut out);
         black_box(&mut out);
     }
 }

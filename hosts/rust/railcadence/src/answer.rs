@@ -10,13 +10,14 @@ const THROTTLED: u64 = 8;
 /// The answer to an acquire.
 ///
 /// ```
-/// use railcadence::{Gcra, Plan};
+/// use railcadence::{Gcra, Plan, Plans};
 ///
-/// let mut table = Gcra::with_slots(1);
-/// let answer = table.acquire(&Plan::new(3, 1000, 2), 1000, 7, 1);
+/// let plans = Plans::new(&[Plan::new(3, 1000, 2)])?;
+/// let answer = Gcra::with_slots(1).acquire(&plans, 1000, 7, 0, 1);
 /// assert_eq!(answer.subscriber, 7);
 /// assert!(answer.is_admitted());
 /// assert_eq!(answer.outcome.to_string(), "admitted: 1 left, nothing owed from moment 1334 on");
+/// # Ok::<(), railcadence::BadPlans>(())
 /// ```
 #[derive(Clone, Copy, Debug, PartialEq, Eq, Hash)]
 pub struct Answer {
@@ -80,10 +81,12 @@ impl Answer {
     /// Number, subscriber, left, reset and wait, as the C interface and the text program give them.
     ///
     /// ```
-    /// use railcadence::{Gcra, Plan};
+    /// use railcadence::{Gcra, Plan, Plans};
     ///
-    /// let answer = Gcra::with_slots(1).acquire(&Plan::new(3, 1000, 2), 1000, 7, 1);
+    /// let plans = Plans::new(&[Plan::new(3, 1000, 2)])?;
+    /// let answer = Gcra::with_slots(1).acquire(&plans, 1000, 7, 0, 1);
     /// assert_eq!(answer.to_numbers(), [0, 7, 1, 1334, 0]);
+    /// # Ok::<(), railcadence::BadPlans>(())
     /// ```
     pub fn to_numbers(&self) -> [u64; 5] {
         let [left, reset, wait] = match self.outcome {
@@ -111,17 +114,23 @@ impl Outcome {
         }
     }
 
-    /// Whether the same request may simply be made again later: throttled, after the wait, or the table was full.
+    /// Whether the same request may simply be made again later: throttled, after the wait, the table was full, or the
+    /// subscriber still owed under another plan.
     ///
     /// ```
-    /// use railcadence::{Gcra, Plan};
+    /// use railcadence::{Gcra, Plan, Plans};
     ///
-    /// let plan = Plan::new(3, 1000, 2);
+    /// let plans = Plans::new(&[Plan::new(3, 1000, 2), Plan::new(10, 1000, 5)])?;
     /// let mut table = Gcra::with_slots(1);
-    /// table.acquire(&plan, 1000, 7, 2);
-    /// assert!(table.acquire(&plan, 1000, 7, 1).outcome.may_retry()); // 334 ms to wait
-    /// assert!(table.acquire(&plan, 1000, 8, 1).outcome.may_retry()); // the only slot is taken
-    /// assert!(!table.acquire(&plan, 1000, 7, 3).outcome.may_retry()); // more than the burst
+    /// table.acquire(&plans, 1000, 7, 0, 2);
+    /// let mut may_retry = |subscriber, plan, cost| {
+    ///     table.acquire(&plans, 1000, subscriber, plan, cost).outcome.may_retry()
+    /// };
+    /// assert!(may_retry(7, 0, 1)); // 334 ms to wait
+    /// assert!(may_retry(8, 0, 1)); // the only slot is taken
+    /// assert!(may_retry(7, 1, 1)); // it owes under plan 0
+    /// assert!(!may_retry(7, 0, 3)); // more than the burst
+    /// # Ok::<(), railcadence::BadPlans>(())
     /// ```
     pub fn may_retry(&self) -> bool {
         match self {
@@ -175,13 +184,13 @@ mod tests {
     }
 
     #[test]
-    fn only_8_and_9_may_be_tried_again() {
+    fn only_8_and_9_and_12_may_be_tried_again() {
         let may_retry = |number| {
             let outcome = Answer::from_numbers([number, 7, 0, 0, 1]).outcome;
             outcome.may_retry()
         };
         let numbers = (0..20).chain([u64::MAX]);
-        assert!(numbers.filter(|number| may_retry(*number)).eq([8, 9]));
+        assert!(numbers.filter(|number| may_retry(*number)).eq([8, 9, 12]));
     }
 
     #[test]

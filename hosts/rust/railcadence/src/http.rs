@@ -45,13 +45,15 @@ impl Answer {
     /// What to tell a client of this answer, which an acquire under the plan gave at the moment.
     ///
     /// ```
-    /// use railcadence::{Gcra, HttpFields, Plan};
+    /// use railcadence::{Gcra, HttpFields, Plan, Plans};
     ///
     /// let plan = Plan::new(60, 3_600_000, 12);
+    /// let plans = Plans::new(&[plan])?;
     /// let mut table = Gcra::with_slots(300);
-    /// table.acquire(&plan, 0, 7, 12);
-    /// let told = table.acquire(&plan, 500, 7, 1).http_fields(&plan, 500); // 59,500 ms to wait
+    /// table.acquire(&plans, 0, 7, 0, 12);
+    /// let told = table.acquire(&plans, 500, 7, 0, 1).http_fields(&plan, 500); // 59,500 ms to wait
     /// assert_eq!(told, HttpFields { quota: 12, window: 720, remaining: 0, reset: 720, retry_after: 60 });
+    /// # Ok::<(), railcadence::BadPlans>(())
     /// ```
     pub fn http_fields(&self, plan: &Plan, moment: u64) -> HttpFields {
         HttpFields::of(plan, moment, self.to_numbers())
@@ -62,13 +64,15 @@ impl Report {
     /// What to tell a client of this report, which a peek under the plan gave at the moment.
     ///
     /// ```
-    /// use railcadence::{Gcra, HttpFields, Plan};
+    /// use railcadence::{Gcra, HttpFields, Plan, Plans};
     ///
     /// let plan = Plan::new(60, 3_600_000, 12);
+    /// let plans = Plans::new(&[plan])?;
     /// let mut table = Gcra::with_slots(300);
-    /// table.acquire(&plan, 0, 7, 2);
-    /// let told = table.peek(&plan, 500, 7).http_fields(&plan, 500); // 119,500 ms to the reset
+    /// table.acquire(&plans, 0, 7, 0, 2);
+    /// let told = table.peek(&plans, 500, 7, 0).http_fields(&plan, 500); // 119,500 ms to the reset
     /// assert_eq!(told, HttpFields { quota: 12, window: 720, remaining: 10, reset: 120, retry_after: 0 });
+    /// # Ok::<(), railcadence::BadPlans>(())
     /// ```
     pub fn http_fields(&self, plan: &Plan, moment: u64) -> HttpFields {
         HttpFields::of(plan, moment, self.to_numbers())

@@ -1,25 +1,27 @@
 //! Railcadence: a rate limiter in which every answer and every stored number is proved.
 //!
 //! A [`Plan`] allows `limit` units per `period` milliseconds, and up to `burst` units at once. A table remembers who owes
-//! what. Whoever wants to spend units asks it with [`Gcra::acquire`], and is admitted, told how long to wait, or refused.
+//! what. Whoever wants to spend units asks it with [`Gcra::acquire`] under one of up to 16 [`Plans`], and is admitted, told
+//! how long to wait, or refused.
 //!
 //! ```
-//! use railcadence::{Gcra, Outcome, Plan};
+//! use railcadence::{Gcra, Outcome, Plan, Plans};
 //!
-//! let plan = Plan::new(3, 1000, 2);
+//! let plans = Plans::new(&[Plan::new(3, 1000, 2)])?;
 //! let mut table = Gcra::with_slots(300);
-//! let mut ask = |moment| table.acquire(&plan, moment, 7, 1).outcome;
+//! let mut ask = |moment| table.acquire(&plans, moment, 7, 0, 1).outcome; // subscriber 7, plan 0, 1 unit
 //!
 //! assert_eq!(ask(1000), Outcome::Admitted { left: 1, reset: 1334 });
 //! assert_eq!(ask(1000), Outcome::Admitted { left: 0, reset: 1667 });
 //! assert_eq!(ask(1000), Outcome::Throttled { left: 0, reset: 1667, wait: 334 });
 //! assert_eq!(ask(1334), Outcome::Admitted { left: 0, reset: 2000 });
+//! # Ok::<(), railcadence::BadPlans>(())
 //! ```
 //!
 //! # Which engine
 //!
 //! [`Gcra`] stores one number a subscriber, [`TokenBucket`] two. On cleared tables with equally many slots, the same calls
-//! under one plan get the same answers from both. If unsure, take `Gcra`.
+//! get the same answers from both, if the same plans are lent in all of them. If unsure, take `Gcra`.
 //!
 //! # Moments
 //!
@@ -39,16 +41,17 @@
 //! you hold it, since a moment that was read before may be earlier than another thread's admission meanwhile.
 //!
 //! ```
-//! use railcadence::{Gcra, Plan};
+//! use railcadence::{Gcra, Plan, Plans};
 //! use std::sync::Mutex;
 //! use std::time::Instant;
 //!
-//! let (plan, start) = (Plan::new(3, 1000, 2), Instant::now());
-//! let shared = Mutex::new(Gcra::with_slots(300));
+//! let plans = Plans::new(&[Plan::new(3, 1000, 2)])?;
+//! let (shared, start) = (Mutex::new(Gcra::with_slots(300)), Instant::now());
 //!
 //! let mut table = shared.lock().unwrap(); // first the table,
 //! let moment = start.elapsed().as_millis() as u64; // then the clock
-//! assert!(table.acquire(&plan, moment, 7, 1).is_admitted());
+//! assert!(table.acquire(&plans, moment, 7, 0, 1).is_admitted());
+//! # Ok::<(), railcadence::BadPlans>(())
 //! ```
 //!
 //! # Linking
@@ -63,6 +66,7 @@ pub mod gcra;
 mod http;
 pub mod numbers;
 mod plan;
+mod plans;
 mod reason;
 mod report;
 pub mod sys;
@@ -72,6 +76,7 @@ pub use answer::{Answer, Outcome};
 pub use gcra::Gcra;
 pub use http::HttpFields;
 pub use plan::Plan;
+pub use plans::{BadPlans, Plans};
 pub use reason::Reason;
 pub use report::{Balance, Report};
 pub use token_bucket::TokenBucket;

@@ -1,14 +1,23 @@
 //! The calls on lent slices, with their answers as plain numbers: `out` receives what the C header says. All of the unsafe
 //! code is here.
 //!
-//! ```
-//! use railcadence::{numbers, Plan};
+//! The plans are numbers too, limit, period and burst of each in turn, and any of them may be lent: [`Plans::values`] has
+//! those of good ones.
 //!
-//! let (mut ids, mut tats, mut newest, mut out) = ([0; 300], [0; 300], 0, [0; 5]);
-//! numbers::gcra_acquire(&Plan::new(3, 1000, 2), &mut ids, &mut tats, &mut newest, 1000, 7, 1, &mut out);
+//! ```
+//! use railcadence::numbers;
+//!
+//! let plans = [3, 1000, 2];
+//! let (mut ids, mut plan_numbers, mut tats) = ([0; 300], [0; 300], [0; 300]);
+//! let (mut newest, mut out) = (0, [0; 5]);
+//! numbers::gcra_acquire(
+//!     &plans, &mut ids, &mut plan_numbers, &mut tats, &mut newest, 1000, 7, 0, 1, &mut out,
+//! );
 //! assert_eq!(out, [0, 7, 1, 1334, 0]);
 //! assert_eq!(newest, 1000);
 //! ```
+//!
+//! [`Plans::values`]: crate::Plans::values
 
 #![allow(clippy::too_many_arguments)]
 
@@ -21,27 +30,31 @@ use crate::sys;
 /// An acquire of the GCRA engine.
 #[inline]
 pub fn gcra_acquire(
-    plan: &Plan,
+    plans: &[u32],
     ids: &mut [u32],
+    plan_numbers: &mut [u8],
     tats: &mut [u64],
     newest: &mut u64,
     moment: u64,
     subscriber: u32,
+    plan: u32,
     cost: u32,
     out: &mut [u64; 5],
 ) {
     unsafe {
         sys::railcadence_gcra_acquire(
-            plan.limit,
-            plan.period,
-            plan.burst,
+            plans.as_ptr(),
+            plans.len(),
             ids.as_mut_ptr(),
             ids.len(),
+            plan_numbers.as_mut_ptr(),
+            plan_numbers.len(),
             tats.as_mut_ptr(),
             tats.len(),
             newest,
             moment,
             subscriber,
+            plan,
             cost,
             out.as_mut_ptr(),
         )
@@ -50,37 +63,49 @@ pub fn gcra_acquire(
 
 /// A peek of the GCRA engine.
 pub fn gcra_peek(
-    plan: &Plan,
+    plans: &[u32],
     ids: &[u32],
+    plan_numbers: &[u8],
     tats: &[u64],
     newest: &u64,
     moment: u64,
     subscriber: u32,
+    plan: u32,
     out: &mut [u64; 5],
 ) {
     unsafe {
         sys::railcadence_gcra_peek(
-            plan.limit,
-            plan.period,
-            plan.burst,
+            plans.as_ptr(),
+            plans.len(),
             ids.as_ptr(),
             ids.len(),
+            plan_numbers.as_ptr(),
+            plan_numbers.len(),
             tats.as_ptr(),
             tats.len(),
             newest,
             moment,
             subscriber,
+            plan,
             out.as_mut_ptr(),
         )
     }
 }
 
 /// A clear of the GCRA engine.
-pub fn gcra_clear(ids: &mut [u32], tats: &mut [u64], newest: &mut u64, out: &mut [u64; 5]) {
+pub fn gcra_clear(
+    ids: &mut [u32],
+    plan_numbers: &mut [u8],
+    tats: &mut [u64],
+    newest: &mut u64,
+    out: &mut [u64; 5],
+) {
     unsafe {
         sys::railcadence_gcra_clear(
             ids.as_mut_ptr(),
             ids.len(),
+            plan_numbers.as_mut_ptr(),
+            plan_numbers.len(),
             tats.as_mut_ptr(),
             tats.len(),
             newest,
@@ -92,23 +117,26 @@ pub fn gcra_clear(ids: &mut [u32], tats: &mut [u64], newest: &mut u64, out: &mut
 /// An acquire of the token bucket engine.
 #[inline]
 pub fn token_bucket_acquire(
-    plan: &Plan,
+    plans: &[u32],
     ids: &mut [u32],
+    plan_numbers: &mut [u8],
     levels: &mut [u64],
     lasts: &mut [u64],
     newest: &mut u64,
     moment: u64,
     subscriber: u32,
+    plan: u32,
     cost: u32,
     out: &mut [u64; 5],
 ) {
     unsafe {
         sys::railcadence_token_bucket_acquire(
-            plan.limit,
-            plan.period,
-            plan.burst,
+            plans.as_ptr(),
+            plans.len(),
             ids.as_mut_ptr(),
             ids.len(),
+            plan_numbers.as_mut_ptr(),
+            plan_numbers.len(),
             levels.as_mut_ptr(),
             levels.len(),
             lasts.as_mut_ptr(),
@@ -116,6 +144,7 @@ pub fn token_bucket_acquire(
             newest,
             moment,
             subscriber,
+            plan,
             cost,
             out.as_mut_ptr(),
         )
@@ -124,22 +153,25 @@ pub fn token_bucket_acquire(
 
 /// A peek of the token bucket engine.
 pub fn token_bucket_peek(
-    plan: &Plan,
+    plans: &[u32],
     ids: &[u32],
+    plan_numbers: &[u8],
     levels: &[u64],
     lasts: &[u64],
     newest: &u64,
     moment: u64,
     subscriber: u32,
+    plan: u32,
     out: &mut [u64; 5],
 ) {
     unsafe {
         sys::railcadence_token_bucket_peek(
-            plan.limit,
-            plan.period,
-            plan.burst,
+            plans.as_ptr(),
+            plans.len(),
             ids.as_ptr(),
             ids.len(),
+            plan_numbers.as_ptr(),
+            plan_numbers.len(),
             levels.as_ptr(),
             levels.len(),
             lasts.as_ptr(),
@@ -147,6 +179,7 @@ pub fn token_bucket_peek(
             newest,
             moment,
             subscriber,
+            plan,
             out.as_mut_ptr(),
         )
     }
@@ -155,6 +188,7 @@ pub fn token_bucket_peek(
 /// A clear of the token bucket engine.
 pub fn token_bucket_clear(
     ids: &mut [u32],
+    plan_numbers: &mut [u8],
     levels: &mut [u64],
     lasts: &mut [u64],
     newest: &mut u64,
@@ -164,6 +198,8 @@ pub fn token_bucket_clear(
         sys::railcadence_token_bucket_clear(
             ids.as_mut_ptr(),
             ids.len(),
+            plan_numbers.as_mut_ptr(),
+            plan_numbers.len(),
             levels.as_mut_ptr(),
             levels.len(),
             lasts.as_mut_ptr(),
@@ -192,6 +228,7 @@ pub fn http_fields(plan: &Plan, moment: u64, answer: &[u64; 5], out: &mut [u64; 
 pub fn transcribe(
     text: &[u8],
     ids: &mut [u32],
+    plan_numbers: &mut [u8],
     tats: &mut [u64],
     newest: &mut u64,
     out: &mut [u8],
@@ -203,6 +240,8 @@ pub fn transcribe(
             text.len(),
             ids.as_mut_ptr(),
             ids.len(),
+            plan_numbers.as_mut_ptr(),
+            plan_numbers.len(),
             tats.as_mut_ptr(),
             tats.len(),
             newest,

@@ -2,20 +2,15 @@
 
 /// A plan: `limit` units per `period` milliseconds, and up to `burst` units at once.
 ///
-/// Any numbers make a plan. One outside its limits is refused with [`Reason::BadPlan`](crate::Reason::BadPlan) by the
-/// call that gets it.
-///
-/// A table counts in units of its plan: keep it to one plan, and clear it before it serves another.
+/// Any numbers make a plan; [`Plans::new`](crate::Plans::new) takes those that are within their limits.
 ///
 /// ```
-/// use railcadence::{Gcra, Outcome, Plan, Reason};
+/// use railcadence::Plan;
 ///
 /// let hourly = Plan::new(60, 3_600_000, 12);
 /// assert_eq!(hourly, Plan { limit: 60, period: 3_600_000, burst: 12 });
-///
-/// let nothing = Plan::new(0, 1000, 1);
-/// let answer = Gcra::with_slots(1).acquire(&nothing, 0, 7, 1);
-/// assert_eq!(answer.outcome, Outcome::Refused(Reason::BadPlan));
+/// assert!(hourly.is_within_limits());
+/// assert!(!Plan::new(0, 1000, 1).is_within_limits());
 /// ```
 #[derive(Clone, Copy, Debug, PartialEq, Eq, Hash)]
 pub struct Plan {
@@ -35,5 +30,15 @@ impl Plan {
             period,
             burst,
         }
+    }
+
+    /// Whether each of its numbers is within its limits.
+    pub const fn is_within_limits(&self) -> bool {
+        const fn within(number: u32, most: u32) -> bool {
+            1 <= number && number <= most
+        }
+        within(self.limit, 1_000_000)
+            && within(self.period, 2_678_400_000)
+            && within(self.burst, 1_000_000)
     }
 }

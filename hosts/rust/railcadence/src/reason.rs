@@ -16,7 +16,8 @@ use std::fmt::{Display, Formatter, Result};
 #[derive(Clone, Copy, Debug, PartialEq, Eq, Hash)]
 #[non_exhaustive]
 pub enum Reason {
-    /// Limit, period or burst is outside its limits.
+    /// The plan asked for is not among those lent. On [`numbers`](crate::numbers) also: no plans are lent, more than 16, or one
+    /// outside its limits.
     BadPlan,
     /// The columns are of different lengths, or there are not 1 to 65,535 slots.
     BadTable,
@@ -29,11 +30,14 @@ pub enum Reason {
     NoSubscriber,
     /// The cost is 0.
     ZeroCost,
-    /// The cost is above the burst, and can never be admitted.
+    /// The cost is above the burst of the plan asked for, and can never be admitted under it.
     CostAboveBurst,
-    /// The subscriber's own slot holds what no admission up to this moment can have left: the table is damaged, or the plan
-    /// is another one.
+    /// The subscriber's own slot holds what no admission up to this moment can have left under the slot's plan, or the number
+    /// of a plan that is not lent: the table is damaged, or other plans are lent.
     CorruptRecord,
+    /// The subscriber still owes under another plan. Ask under that one, or later, when nothing is owed any more: from when
+    /// that is a peek under that plan says.
+    OtherPlan,
     /// No moment up to 2^42 − 1 milliseconds will admit the request: it is not served while this clock lasts. This comes in
     /// the place of [`Outcome::Throttled`](crate::Outcome::Throttled), and only when less is left of the clock than the cost
     /// takes to be earned.
@@ -56,6 +60,7 @@ impl Reason {
             7 => Reason::CorruptRecord,
             9 => Reason::TableFull,
             11 => Reason::EarlyMoment,
+            12 => Reason::OtherPlan,
             13 => Reason::NotOnClock,
             _ => Reason::Unknown(number),
         }
@@ -73,16 +78,17 @@ impl Reason {
             Reason::CorruptRecord => 7,
             Reason::TableFull => 9,
             Reason::EarlyMoment => 11,
+            Reason::OtherPlan => 12,
             Reason::NotOnClock => 13,
             Reason::Unknown(number) => *number,
         }
     }
 
-    /// Whether the same request may simply be made again later, which is so of [`Reason::TableFull`]. Under any other reason
-    /// that does not help: the caller is at fault and has something to mend first, or, under [`Reason::NotOnClock`], the clock
-    /// ends too soon.
+    /// Whether the same request may simply be made again later, which is so of [`Reason::TableFull`] and
+    /// [`Reason::OtherPlan`]. Under any other reason that does not help: the caller is at fault and has something to mend
+    /// first, or, under [`Reason::NotOnClock`], the clock ends too soon.
     pub fn may_retry(&self) -> bool {
-        matches!(self, Reason::TableFull)
+        matches!(self, Reason::TableFull | Reason::OtherPlan)
     }
 }
 
@@ -90,8 +96,7 @@ impl Display for Reason {
     fn fmt(&self, f: &mut Formatter) -> Result {
         let words = match self {
             Reason::BadPlan => {
-                "the plan is outside its limits: take a limit of 1 to 1000000 units, a period of 1 to 2678400000 ms \
-                 and a burst of 1 to 1000000 units"
+                "the plan asked for is not lent, or the plans are none, more than 16 or not all within their limits"
             }
             Reason::BadTable => {
                 "the columns differ in length, or there are not 1 to 65535 slots: make the table anew"
@@ -106,11 +111,14 @@ impl Display for Reason {
             Reason::NoSubscriber => "subscriber 0 is nobody: number subscribers from 1",
             Reason::ZeroCost => "the cost is 0: ask for 1 unit or more, or peek",
             Reason::CostAboveBurst => {
-                "the cost is above the burst and never admitted: ask for less at once, or raise the burst"
+                "the cost is above the plan's burst and never admitted: ask for less at once, or under another plan"
             }
             Reason::CorruptRecord => {
-                "no admission up to this moment can have left the subscriber's record, so the table is damaged or the \
-                 plan is another one: clear the table"
+                "no admission up to this moment can have left the subscriber's record, so the table is damaged or other \
+                 plans are lent: clear the table"
+            }
+            Reason::OtherPlan => {
+                "the subscriber still owes under another plan: ask under that one, or again when nothing is owed"
             }
             Reason::NotOnClock => {
                 "no moment up to 4398046511103 will admit the request: ask for less at once, or clear the table and count \
@@ -135,7 +143,7 @@ mod tests {
 
     #[test]
     fn a_number_of_further_rules_is_no_panic() {
-        for number in [10, 12, 14, 15, 16, u64::MAX] {
+        for number in [10, 14, 15, 16, u64::MAX] {
             assert_eq!(Reason::from_number(number), Reason::Unknown(number));
         }
     }

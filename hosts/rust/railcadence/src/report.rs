@@ -6,25 +6,26 @@ use std::fmt::{Display, Formatter};
 /// The answer to a peek. It admits nothing, however much is left: whoever wants to spend units acquires them.
 ///
 /// ```
-/// use railcadence::{Balance, Gcra, Plan, Reason};
+/// use railcadence::{Balance, Gcra, Plan, Plans, Reason};
 ///
-/// let plan = Plan::new(3, 1000, 2);
+/// let plans = Plans::new(&[Plan::new(3, 1000, 2)])?;
 /// let table = Gcra::with_slots(1);
-/// let report = table.peek(&plan, 1000, 7);
+/// let report = table.peek(&plans, 1000, 7, 0);
 /// assert_eq!(report.subscriber, 7);
 /// assert_eq!(report.balance, Ok(Balance { left: 2, reset: 1000 }));
 /// assert_eq!(report.to_string(), "2 left, nothing owed from moment 1000 on");
 ///
-/// let report = table.peek(&plan, 1000, 0);
+/// let report = table.peek(&plans, 1000, 0, 0);
 /// assert_eq!(report.balance, Err(Reason::NoSubscriber));
 /// assert_eq!(report.to_string(), "refused: subscriber 0 is nobody: number subscribers from 1");
+/// # Ok::<(), railcadence::BadPlans>(())
 /// ```
 ///
 /// So nobody can take it for an admission:
 ///
 /// ```compile_fail,E0599
-/// let plan = railcadence::Plan::new(3, 1000, 2);
-/// railcadence::Gcra::with_slots(1).peek(&plan, 1000, 7).is_admitted();
+/// let plans = railcadence::Plans::new(&[railcadence::Plan::new(3, 1000, 2)]).unwrap();
+/// railcadence::Gcra::with_slots(1).peek(&plans, 1000, 7, 0).is_admitted();
 /// ```
 #[derive(Clone, Copy, Debug, PartialEq, Eq, Hash)]
 pub struct Report {
@@ -59,10 +60,12 @@ impl Report {
     /// Number, subscriber, left, reset and wait, as the C interface gives them; a peek's wait is 0.
     ///
     /// ```
-    /// use railcadence::{Gcra, Plan};
+    /// use railcadence::{Gcra, Plan, Plans};
     ///
-    /// let report = Gcra::with_slots(1).peek(&Plan::new(3, 1000, 2), 1000, 7);
+    /// let plans = Plans::new(&[Plan::new(3, 1000, 2)])?;
+    /// let report = Gcra::with_slots(1).peek(&plans, 1000, 7, 0);
     /// assert_eq!(report.to_numbers(), [0, 7, 2, 1000, 0]);
+    /// # Ok::<(), railcadence::BadPlans>(())
     /// ```
     pub fn to_numbers(&self) -> [u64; 5] {
         let subscriber = u64::from(self.subscriber);

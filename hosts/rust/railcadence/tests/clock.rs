@@ -1,13 +1,16 @@
 //! A clock that goes back, and one that ends: both engines refuse a moment before the newest admission, and a request that no
 //! later moment admits, and change nothing.
 
-use railcadence::{Answer, Gcra, Outcome, Plan, Reason, Report, TokenBucket};
+use railcadence::{Answer, Gcra, Outcome, Plan, Plans, Reason, Report, TokenBucket};
 use std::fmt::Debug;
 
-const PLAN: Plan = Plan::new(3, 1000, 2);
 const LAST_MOMENT: u64 = (1 << 42) - 1;
 const EARLY: Outcome = Outcome::Refused(Reason::EarlyMoment);
 const NOT_ON_CLOCK: Outcome = Outcome::Refused(Reason::NotOnClock);
+
+fn plans() -> Plans {
+    Plans::new(&[Plan::new(3, 1000, 2)]).expect("good plans")
+}
 
 /// A table of two slots, of either engine.
 trait Table: Clone + Debug + PartialEq {
@@ -28,10 +31,10 @@ macro_rules! table {
                 self.newest()
             }
             fn acquire(&mut self, moment: u64, subscriber: u32, cost: u32) -> Answer {
-                self.acquire(&PLAN, moment, subscriber, cost)
+                self.acquire(&plans(), moment, subscriber, 0, cost)
             }
             fn peek(&self, moment: u64, subscriber: u32) -> Report {
-                self.peek(&PLAN, moment, subscriber)
+                self.peek(&plans(), moment, subscriber, 0)
             }
             fn clear(&mut self) -> Result<(), Reason> {
                 self.clear()
@@ -40,8 +43,8 @@ macro_rules! table {
     };
 }
 
-table!(Gcra, vec![0; 2], vec![0; 2]);
-table!(TokenBucket, vec![0; 2], vec![0; 2], vec![0; 2]);
+table!(Gcra, vec![0; 2], vec![0; 2], vec![0; 2]);
+table!(TokenBucket, vec![0; 2], vec![0; 2], vec![0; 2], vec![0; 2]);
 
 /// Whoever asks gets 11, and before 4, 5 and 6.
 fn early<T: Table>() {
@@ -147,10 +150,11 @@ fn a_wait_beyond_the_clock_is_refused() {
 #[test]
 fn a_plan_may_take_longer_than_the_clock() {
     let plan = Plan::new(1, 2_678_400_000, 1_000_000);
+    let plans = Plans::new(&[plan]).expect("a good plan");
     let (mut gcra, mut bucket) = (Gcra::with_slots(1), TokenBucket::with_slots(1));
     let mut ask = |moment, cost| {
-        let answer = gcra.acquire(&plan, moment, 7, cost);
-        assert_eq!(bucket.acquire(&plan, moment, 7, cost), answer);
+        let answer = gcra.acquire(&plans, moment, 7, 0, cost);
+        assert_eq!(bucket.acquire(&plans, moment, 7, 0, cost), answer);
         answer
     };
     assert!(ask(0, 1_000_000).is_admitted());

@@ -3,14 +3,20 @@
 pub trait Search {
     /// The first slot that carries the number.
     fn own(ids: &[u32], subscriber: u32) -> Option<usize>;
-    /// The first slot that is empty, or whose TAT is at most `now`.
-    fn free_tat(ids: &[u32], tats: &[u64], now: u64) -> Option<usize>;
-    /// The first slot that is empty, or whose level and last moment are those of a full bucket.
+    /// The first slot that is empty, or is free by its plan's number and its TAT.
+    fn free_tat(
+        ids: &[u32],
+        numbers: &[u8],
+        tats: &[u64],
+        is_free: impl Fn(u8, u64) -> bool,
+    ) -> Option<usize>;
+    /// The first slot that is empty, or is free by its plan's number, its level and its last moment.
     fn free_bucket(
         ids: &[u32],
+        numbers: &[u8],
         levels: &[u64],
         lasts: &[u64],
-        is_full: impl Fn(u64, u64) -> bool,
+        is_free: impl Fn(u8, u64, u64) -> bool,
     ) -> Option<usize>;
 }
 
@@ -27,9 +33,14 @@ impl Search for Index {
         None
     }
 
-    fn free_tat(ids: &[u32], tats: &[u64], now: u64) -> Option<usize> {
+    fn free_tat(
+        ids: &[u32],
+        numbers: &[u8],
+        tats: &[u64],
+        is_free: impl Fn(u8, u64) -> bool,
+    ) -> Option<usize> {
         for i in 0..ids.len() {
-            if ids[i] == 0 || tats[i] <= now {
+            if ids[i] == 0 || is_free(numbers[i], tats[i]) {
                 return Some(i);
             }
         }
@@ -38,12 +49,13 @@ impl Search for Index {
 
     fn free_bucket(
         ids: &[u32],
+        numbers: &[u8],
         levels: &[u64],
         lasts: &[u64],
-        is_full: impl Fn(u64, u64) -> bool,
+        is_free: impl Fn(u8, u64, u64) -> bool,
     ) -> Option<usize> {
         for i in 0..ids.len() {
-            if ids[i] == 0 || is_full(levels[i], lasts[i]) {
+            if ids[i] == 0 || is_free(numbers[i], levels[i], lasts[i]) {
                 return Some(i);
             }
         }
@@ -58,18 +70,24 @@ impl Search for Position {
         ids.iter().position(|&id| id == subscriber)
     }
 
-    fn free_tat(ids: &[u32], tats: &[u64], now: u64) -> Option<usize> {
-        let mut slots = ids.iter().zip(tats);
-        slots.position(|(&id, &tat)| id == 0 || tat <= now)
+    fn free_tat(
+        ids: &[u32],
+        numbers: &[u8],
+        tats: &[u64],
+        is_free: impl Fn(u8, u64) -> bool,
+    ) -> Option<usize> {
+        let mut slots = ids.iter().zip(numbers).zip(tats);
+        slots.position(|((&id, &number), &tat)| id == 0 || is_free(number, tat))
     }
 
     fn free_bucket(
         ids: &[u32],
+        numbers: &[u8],
         levels: &[u64],
         lasts: &[u64],
-        is_full: impl Fn(u64, u64) -> bool,
+        is_free: impl Fn(u8, u64, u64) -> bool,
     ) -> Option<usize> {
-        let mut slots = ids.iter().zip(levels).zip(lasts);
-        slots.position(|((&id, &level), &last)| id == 0 || is_full(level, last))
+        let mut slots = ids.iter().zip(numbers).zip(levels).zip(lasts);
+        slots.position(|(((&id, &number), &level), &last)| id == 0 || is_free(number, level, last))
     }
 }
