@@ -85,7 +85,7 @@ of-slices words =
     record {
       count-is = lent-count words;
       not-whole = lent-none words;
-      plan-is = λ k h. lent-at words k (is-lent (plansIn words) k h);
+      plan-is = λ k h. lent-at words k h;
     }
 
 module _ {R : Type 0} (E : Engine R) (p : Plans) (at : ℕ) (r : Planned R) where

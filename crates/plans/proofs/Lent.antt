@@ -86,10 +86,7 @@ not-lent (p ∷ rest) (suc k) h =
     not-lent rest k (le-ltb k (length rest) (omega (arith, ltb-false (suc k) (length (p ∷ rest)) h)))
 
 -- where a plan stands
-module _ (words : List ℕ) (k : ℕ) (h : known (plansIn words) k ≡ true) where
-  below : k < length (plansIn words)
-  below = lent-below (plansIn words) k h
-
+module _ (words : List ℕ) (k : ℕ) (below : k < length (plansIn words)) where
   whole : length words % 3 ≡ 0
   whole = by (eqb (length words % 3) 0) refl
     where

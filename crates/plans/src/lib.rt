@@ -1,5 +1,6 @@
 // Plans that a host lends together, in one slice (document 02, Item 3): limit, period and burst of plan 0, then of plan 1, and so on.
 ghost use mathlib.Core.Path.{_≡_};
+ghost use Prim.Native.Nat.{_<_};
 ghost use lib.ListN.{length};
 ghost use Rattle.plans.specs.Lent.{plansIn};
 ghost use Rattle.plans.specs.Plans.{plansOf, planAt, known, lentOk, plansOk};
@@ -27,6 +28,19 @@ pub fn is_known(plans: &[u32], number: u32) -> bool
     (number as usize) < count(plans)
 }
 
+// The plan at a place among those that are lent.
+fn nth(plans: &[u32], place: usize) -> Plan
+    requires { ⌜ place < length (plansIn (now plans)) ⌝ }
+    ensures { λ r. ⌜ r ≡ planAt (plansIn (now (plans .entry))) place ⌝ }
+{
+    let first = place * 3;
+    Plan {
+        limit: plans[first],
+        period: plans[first + 1],
+        burst: plans[first + 2],
+    }
+}
+
 // The plan with a number; zeros, which are no plan, if none with it is lent.
 pub fn plan_at(plans: &[u32], number: u32) -> Plan
     ensures { λ r. ⌜ r ≡ planAt (plansIn (now (plans .entry))) number ⌝ }
@@ -38,15 +52,11 @@ pub fn plan_at(plans: &[u32], number: u32) -> Plan
             burst: 0,
         };
     }
-    let first = number as usize * 3;
-    Plan {
-        limit: plans[first],
-        period: plans[first + 1],
-        burst: plans[first + 2],
-    }
+    nth(plans, number as usize)
 }
 
-// Whether the plans lent are good: not none, no more than 16, and no bad one. No branch is made for each of them.
+// Whether the plans lent are good: not none, no more than 16, and no bad one. No branch is made for each of them, so that the
+// compiler tests several at once; one alone is spared what that takes.
 fn are_ok(plans: &[u32]) -> bool
     ensures { λ r. ⌜ r ≡ lentOk (plansIn (now (plans .entry))) ⌝ }
 {
@@ -57,10 +67,13 @@ fn are_ok(plans: &[u32]) -> bool
     if MOST_PLANS < lent {
         return false;
     }
+    if lent == 1 {
+        return nth(plans, 0).is_ok();
+    }
     let mut ok = true;
     let mut i = 0;
     while i < lent {
-        ok = ok & plan_at(plans, i as u32).is_ok();
+        ok = ok & nth(plans, i).is_ok();
         i += 1;
     }
     ok

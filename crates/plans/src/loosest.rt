@@ -46,10 +46,10 @@ pub fn loosest(plans: &[u32]) -> Plan
     ensures { λ r. ⌜ ((k : ℕ) → k < length (plansIn (now (plans .entry))) → Looser r (planAt (plansIn (now (plans .entry))) k)) ⌝ }
 {
     let lent = crate::count(plans);
-    let mut loosest = crate::plan_at(plans, 0);
+    let mut loosest = crate::nth(plans, 0);
     let mut i = 1;
     while i < lent {
-        loosest = looser(loosest, crate::plan_at(plans, i as u32));
+        loosest = looser(loosest, crate::nth(plans, i));
         i += 1;
     }
     loosest

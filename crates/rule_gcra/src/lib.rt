@@ -34,9 +34,10 @@ pub fn fresh() -> Ticks
 
 // What the record owes.
 fn backlog(plan: Plan, now: Millis, tat: Ticks) -> Ticks
+    requires { ⌜ InForce plan (now .0) ⌝ }
     ensures { λ r. ⌜ r .0 ≡ backlog plan (now .0) tat ⌝ }
 {
-    let drained = plan.ticks_in(now);
+    let drained = plan.ticks_at(now);
     if tat.0 <= drained.0 {
         return Ticks(0);
     }
@@ -56,7 +57,7 @@ fn spend(plan: Plan, now: Millis, owed: Ticks, cost: u32) -> Ticks
     requires { ⌜ Admitting plan (now .0) (owed .0) cost ⌝ }
     ensures { λ r. ⌜ ((tat : Ticks) → owed .0 ≡ backlog plan (now .0) tat → r ≡ spend plan (now .0) tat cost) ⌝ }
 {
-    let drained = plan.ticks_in(now);
+    let drained = plan.ticks_at(now);
     let price = plan.price(cost);
     Ticks(drained.0 + (owed.0 + price.0))
 }

@@ -21,6 +21,7 @@ pub enum Standing {
 
 // A record of the plan asked for is judged as it is. Of another plan, who owes nothing is judged as having no record.
 fn stands(plans: &[u32], asked: u32, moment: Millis, number: u32, tat: Ticks) -> Standing
+    requires { ⌜ Lending (plansOf (plansIn (now plans)) asked) (moment .0) ⌝ }
     ensures { λ r. ⌜ standingOf r ≡ standing gcra (plansOf (plansIn (now (plans .entry))) asked) (moment .0) (plannedOf number tat) ⌝ }
 {
     if number == asked {

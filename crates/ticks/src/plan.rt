@@ -1,7 +1,7 @@
 // A plan (document 01, 'Grains'): `limit` units per `period` milliseconds, and a burst of `burst` units on top.
 ghost use mathlib.Core.Path.{_≡_};
 ghost use Prim.Native.Nat.{_^_, _-_, _*_, _<_, min};
-ghost use Rattle.ticks.specs.Grains.{ticksIn, price, capacity, divUp, oneTo, planOk};
+ghost use Rattle.ticks.specs.Grains.{ticksIn, price, capacity, divUp, oneTo, planOk, InForce};
 use crate::round;
 use crate::units::Millis;
 use crate::units::Ticks;
@@ -88,6 +88,14 @@ impl Plan {
             return Ticks(product(span.0, self.limit));
         }
         Ticks(span.0 * self.limit as u64)
+    }
+
+    // What a moment within the clock's limit is in ticks of a plan within its limits: the product fits, and no test is made.
+    pub fn ticks_at(self, moment: Millis) -> Ticks
+        requires { ⌜ InForce self (moment .0) ⌝ }
+        ensures { λ r. ⌜ r .0 ≡ ticksIn self (moment .0) ⌝ }
+    {
+        Ticks(moment.0 * self.limit as u64)
     }
 
     // What a stretch of time is in ticks, if that is below 2^64; if not, any number. No branch is made of it, and the compiler

@@ -18,9 +18,6 @@ Inv-loop plans lent ok₀ i₀ ok i = (ok ≡ goodTo (plansIn plans) i) × (i �
 abbrev μ-loop : tie.MeasureT-loop
 μ-loop plans lent ok₀ i₀ ok i = lent - i
 
-count-requires : tie.Need-count-requires Inv-loop μ-loop
-count-requires c κs = search needs
-
 returns : tie.Need-returns Inv-loop μ-loop
 returns c =
     lent-too-few (plansIn (now (c .before .before .before .args .plans))) (omega (arith, c .before .count .ensures, c .if1 .taken))
@@ -30,17 +27,24 @@ returns-2 c =
     let n = c .before .before .count .ensures in
     lent-too-many (plansIn (now (c .before .before .before .before .args .plans))) (omega (arith, n, c .before .if1 .left)) (omega (arith, n, c .if2 .taken))
 
+nth-requires : tie.Need-nth-requires Inv-loop μ-loop
+nth-requires c κs = let n = c .before .before .before in omega (arith, c .if3 .taken, n .count .ensures)
+
+returns-3 : tie.Need-returns-3 Inv-loop μ-loop
+returns-3 c =
+    let m = c .before .before .before in
+    let s = m .before .before in
+    let ps = plansIn (now (s .before .before .args .plans)) in
+    let n = s .count .ensures in
+    let all : 1 ≡ length ps = omega (arith, n, c .before .before .if3 .taken) in
+    lent-ok ps (omega (arith, n, m .before .if1 .left)) (omega (arith, n, m .if2 .left))
+    (c .is-ok .ensures ∙ good-next ps 0 (good-none ps) (c .before .nth .ensures) ∙ ap (λ (i : ℕ). goodTo ps i) all ∙ good-all ps)
+
 loop-holds : tie.Need-loop-holds Inv-loop μ-loop
-loop-holds c = (good-none (plansIn (now (c .before .before .before .before .args .plans))), omega arith)
+loop-holds c = (good-none (plansIn (now (c .before .before .before .before .before .args .plans))), omega arith)
 
-cast-plan-at : tie.Need-cast-plan-at Inv-loop μ-loop
-cast-plan-at c = omega (arith, c .loop-test .taken, c .before .before .if2 .left)
-
-plan-at-requires : tie.Need-plan-at-requires Inv-loop μ-loop
-plan-at-requires c κs = search needs
-
-is-ok-requires : tie.Need-is-ok-requires Inv-loop μ-loop
-is-ok-requires c κs = search needs
+nth-requires-2 : tie.Need-nth-requires-2 Inv-loop μ-loop
+nth-requires-2 c κs = let n = c .before .before .before .before .before in omega (arith, c .loop-test .taken, n .count .ensures)
 
 add-i : tie.Need-add-i Inv-loop μ-loop
 add-i c = omega arith
@@ -51,22 +55,23 @@ loop-less c = omega (arith, c .before .before .loop-test .taken)
 loop-again : tie.Need-loop-again Inv-loop μ-loop
 loop-again c =
     let l = c .before .before .before in
-    let ps = plansIn (now (l .before .before .before .before .before .args .plans)) in
+    let ps = plansIn (now (l .before .before .before .before .before .before .args .plans)) in
     let next : suc (l .loop .i) ≡ l .loop .i + 1 = omega arith in (
-      ap (λ (b : Bool). l .loop .ok && b) (c .is-ok .ensures)
-          ∙ good-next ps (l .loop .i) (l .loop .inv .0) (c .before .plan-at .ensures)
+      ap (λ (b : Bool). l .loop .ok && b) (c .is-ok2 .ensures)
+          ∙ good-next ps (l .loop .i) (l .loop .inv .0) (c .before .nth2 .ensures)
           ∙ ap (λ (i : ℕ). goodTo ps i) next,
       omega (arith, c .before .before .loop-test .taken),
     )
 
-returns-3 : tie.Need-returns-3 Inv-loop μ-loop
-returns-3 c =
+returns-4 : tie.Need-returns-4 Inv-loop μ-loop
+returns-4 c =
     let l = c .before in
-    let s = l .before .before .before in
+    let m = l .before .before in
+    let s = m .before .before in
     let ps = plansIn (now (s .before .before .args .plans)) in
     let n = s .count .ensures in
     let all : l .loop .i ≡ length ps = omega (arith, n, l .loop .inv .1, c .loop-test .left) in
-    lent-ok ps (omega (arith, n, l .before .before .if1 .left)) (omega (arith, n, l .before .if2 .left))
+    lent-ok ps (omega (arith, n, m .before .if1 .left)) (omega (arith, n, m .if2 .left))
     (l .loop .inv .0 ∙ ap (λ (i : ℕ). goodTo ps i) all ∙ good-all ps)
 
 pub are-ok-spec : {M : Type 1} → statement M
@@ -75,14 +80,16 @@ are-ok-spec =
     (tie.spec
     Inv-loop
     μ-loop
-    count-requires
+    (λ c κs. search needs)
     returns
     returns-2
+    nth-requires
+    (λ c κs. search needs)
+    returns-3
     loop-holds
-    cast-plan-at
-    plan-at-requires
-    is-ok-requires
+    nth-requires-2
+    (λ c κs. search needs)
     add-i
     loop-less
     loop-again
-    returns-3)
+    returns-4)

@@ -1,5 +1,4 @@
--- `rule_gcra::backlog` meets its contract: what the TAT is ahead of the moment, in ticks. Where the moment in ticks is cut off at
--- the largest u64, no TAT is ahead of it.
+-- `rule_gcra::backlog` meets its contract: what the TAT is ahead of the moment, in ticks.
 -- Assumes nothing.
 use borrow.Author.Needs.{needs}
 use native.Mathlib.Omega.{arith}

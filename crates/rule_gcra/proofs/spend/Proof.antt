@@ -27,7 +27,7 @@ returns c = λ tat owes.
     let S = c .before .before .before .before .before in
     let a = S .args in
     let f = S .pre .force in
-    let e : c .before .before .before .before .ticks-in .result .0 + (a .owed .0 + c .before .before .before .price .result .0) ≡ later (a .plan) (a .now .0) tat + price (a .plan) (a .cost) = omega (arith, ticks-most (a .plan) (f .plan) (a .now .0) (f .moment)) in
+    let e : c .before .before .before .before .ticks-at .result .0 + (a .owed .0 + c .before .before .before .price .result .0) ≡ later (a .plan) (a .now .0) tat + price (a .plan) (a .cost) = omega (arith, ticks-most (a .plan) (f .plan) (a .now .0) (f .moment)) in
     λ i. record { 0 = e i }
 
 pub spend-spec : {M : Type 1} → statement M

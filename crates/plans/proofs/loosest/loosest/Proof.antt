@@ -18,18 +18,21 @@ Inv-loop plans lent loosest₀ i₀ loosest i = LooserTo (plansIn plans) loosest
 abbrev μ-loop : tie.MeasureT-loop
 μ-loop plans lent loosest₀ i₀ loosest i = lent - i
 
+nth-requires : tie.Need-nth-requires Inv-loop μ-loop
+nth-requires c κs = c .before .before .pre .least
+
 loop-holds : tie.Need-loop-holds Inv-loop μ-loop
 loop-holds c =
     let S = c .before .before .before in
     let ps = plansIn (now (S .args .plans)) in (
-      looser-first ps (c .plan-at .ensures),
-      (subst (λ (p : Plan). WithinLimits p) (sym (c .plan-at .ensures)) (S .pre .each 0 (omega (arith, S .pre .least))), omega (arith, S .pre .least, c .before .count .ensures)),
+      looser-first ps (c .nth .ensures),
+      (subst (λ (p : Plan). WithinLimits p) (sym (c .nth .ensures)) (S .pre .each 0 (omega (arith, S .pre .least))), omega (arith, S .pre .least, c .before .count .ensures)),
     )
 
-cast-plan-at : tie.Need-cast-plan-at Inv-loop μ-loop
-cast-plan-at c =
+nth-requires-2 : tie.Need-nth-requires-2 Inv-loop μ-loop
+nth-requires-2 c κs =
     let n = c .before .before .before in
-    omega (arith, c .loop-test .taken, n .count .ensures, n .before .before .pre .most)
+    omega (arith, c .loop-test .taken, n .count .ensures)
 
 add-i : tie.Need-add-i Inv-loop μ-loop
 add-i c = omega arith
@@ -43,7 +46,7 @@ loop-again c =
     let n = l .before .before in
     let S = n .before .before in
     let ps = plansIn (now (S .args .plans)) in
-    let here = c .before .plan-at2 .ensures in
+    let here = c .before .nth2 .ensures in
     let fine = subst (λ (p : Plan). WithinLimits p) (sym here) (S .pre .each (l .loop .i) (omega (arith, n .count .ensures, c .before .before .loop-test .taken))) in (
       looser-next ps (l .loop .i) (c .looser .result) (l .loop .inv .0) here (c .looser .ensures .0 .0) (c .looser .ensures .0 .1),
       (c .looser .ensures .1 (l .loop .inv .1 .0) fine, omega (arith, c .before .before .loop-test .taken)),
@@ -62,10 +65,9 @@ loosest-spec =
     Inv-loop
     μ-loop
     (λ c κs. search needs)
-    (λ c κs. search needs)
+    nth-requires
     loop-holds
-    cast-plan-at
-    (λ c κs. search needs)
+    nth-requires-2
     (λ c κs. search needs)
     add-i
     loop-less

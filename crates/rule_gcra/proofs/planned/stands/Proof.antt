@@ -1,11 +1,16 @@
 -- `rule_gcra::planned::stands` meets its contract: each return is a way in which a record stands.
 -- Assumes nothing.
 use borrow.Author.Needs.{needs}
+use borrow.Author.Tests.{not-false}
+use mathlib.Core.Path.{sym, subst, _∙_}
 use denote.Ref.{now}
+use Rattle.ticks.specs.declared.plan.Plan.{Plan}
 use Rattle.ticks.specs.declared.units.Ticks.{Ticks}
+use Rattle.ticks.specs.Grains.{InForce}
 use Rattle.plans.specs.Lent.{plansIn}
 use Rattle.plans.specs.Plans.{Plans, Planned, plansOf, plannedOf, asked}
 use Rattle.plans.proofs.Judging.{finds-unknown, finds-unsound, finds-drained, finds-owing}
+use Rattle.plans.proofs.Planned.{in-force-at}
 use Rattle.plans.proofs.Standing.{stands-same}
 use Rattle.rule_gcra.specs.Gcra.{gcra}
 use Rattle.rule_gcra.specs.Planned.{standingOf}
@@ -28,6 +33,14 @@ unfolding standingOf
 returns-2 c =
     let s = c .before .before .before in
     finds-unknown gcra (setting s) (s .before .args .moment .0) (stored s) (c .before .before .if1 .left) (c .before .is-known .ensures) (c .if2 .taken)
+
+-- the plan of the record is lent, and so within its limits
+backlog-requires : tie.Need-backlog-requires
+backlog-requires c κs =
+    let t = c .before in
+    let s = t .before .before .before in
+    subst (λ (p : Plan). InForce p (s .before .args .moment .0)) (sym (c .plan-at .ensures))
+    (in-force-at (setting s) (s .before .args .moment .0) (s .before .pre) (s .before .args .number) (sym (t .before .is-known .ensures) ∙ not-false _ (t .if2 .left)))
 
 returns-3 : tie.Need-returns-3
 unfolding standingOf gcra
@@ -67,7 +80,7 @@ stands-spec =
     (λ c κs. search needs)
     returns-2
     (λ c κs. search needs)
-    (λ c κs. search needs)
+    backlog-requires
     (λ c κs. search needs)
     returns-3
     (λ c κs. search needs)
