@@ -1,9 +1,11 @@
 // Plans that a host lends together, in one slice (document 02, Item 3): limit, period and burst of plan 0, then of plan 1, and so on.
 ghost use mathlib.Core.Path.{_≡_};
-ghost use Prim.Native.Nat.{_<_};
+ghost use mathlib.Core.Bool.{true};
+ghost use Prim.Native.Nat.{_<_, min};
 ghost use lib.ListN.{length};
 ghost use Rattle.plans.specs.Lent.{plansIn};
-ghost use Rattle.plans.specs.Plans.{plansOf, planAt, known, lentOk, plansOk};
+ghost use Rattle.ticks.specs.Grains.{WithinLimits};
+ghost use Rattle.plans.specs.Plans.{plansOf, planAt, known, lentOk, plansOk, Lent};
 use ticks::plan::Plan;
 
 pub mod loosest; // a plan by which all that may be free is free
@@ -53,6 +55,26 @@ pub fn plan_at(plans: &[u32], number: u32) -> Plan
         };
     }
     nth(plans, number as usize)
+}
+
+// The smaller of two numbers.
+fn smaller(a: usize, b: usize) -> usize
+    ensures { λ r. ⌜ r ≡ min a b ⌝ }
+{
+    if b < a {
+        return b;
+    }
+    a
+}
+
+// The plan with a number, or the last of those that are lent if it is none of theirs: for tests that may say yes too often.
+pub fn nearest(plans: &[u32], number: u8) -> Plan
+    requires { ⌜ Lent (plansIn (now plans)) ⌝ }
+    ensures { λ r. ⌜ WithinLimits r ⌝ }
+    ensures { λ r. ⌜ (known (plansIn (now (plans .entry))) number ≡ true → r ≡ planAt (plansIn (now (plans .entry))) number) ⌝ }
+{
+    let last = count(plans) - 1;
+    nth(plans, smaller(number as usize, last))
 }
 
 // Whether the plans lent are good: not none, no more than 16, and no bad one. No branch is made for each of them, so that the

@@ -1,12 +1,12 @@
 // Which records under the plans lent are free: what the moment is in ticks of each plan is reckoned once, for many records.
 ghost use mathlib.Core.Path.{_≡_};
-ghost use mathlib.Core.Bool.{_&&_};
+ghost use mathlib.Core.Bool.{false, _&&_};
 ghost use mathlib.Core.List.{List};
 ghost use Prim.Native.Nat.{ℕ, _≤_};
 ghost use lib.ListN.{length};
 ghost use Rattle.ticks.specs.declared.plan.Plan.{Plan};
 ghost use Rattle.plans.specs.Lent.{plansIn};
-ghost use Rattle.plans.specs.Plans.{known, planAt};
+ghost use Rattle.plans.specs.Plans.{Plans, known, planAt, Lending};
 ghost use Rattle.rule_gcra.specs.Gcra.{gcra};
 ghost use Rattle.rule_gcra.specs.Planned.{Drained};
 use ticks::units::Millis;
@@ -39,4 +39,13 @@ pub fn is_free(column: &[u64; 16], lent: usize, number: u8, tat: Ticks) -> bool
         return false;
     }
     tat.0 <= column[place]
+}
+
+// Whether a record may owe nothing by its own plan: if not, it is not free. No branch is made of it.
+pub fn may_be_free(column: &[u64; 16], number: u8, tat: Ticks) -> bool
+    ensures { λ r. ⌜ ((p : Plans) (at : ℕ) → Lending p at → Drained (p .plans) at (now (column .entry)) → r ≡ false →
+        (known (p .plans) number && gcra .free (planAt (p .plans) number) at tat) ≡ false) ⌝ }
+{
+    let place = (number % 16) as usize;
+    tat.may_be_at_most(Ticks(column[place]))
 }

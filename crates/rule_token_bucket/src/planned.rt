@@ -1,9 +1,10 @@
 // The token bucket on one record under the plans lent (document 02, Item 3): a record keeps the number of its plan.
 ghost use mathlib.Core.Path.{_≡_};
-ghost use mathlib.Core.Bool.{_&&_};
+ghost use mathlib.Core.Bool.{true, false, _&&_};
+ghost use Rattle.ticks.specs.Grains.{onClock};
 ghost use Rattle.rate.specs.Answer.{verdictOf};
 ghost use Rattle.rate.specs.Account.{judge, report, settled};
-ghost use Rattle.plans.specs.Plans.{plansOf, plannedOf, planned, known, planAt, Lending};
+ghost use Rattle.plans.specs.Plans.{plansOf, plannedOf, planned, known, planAt, Lending, Lent};
 ghost use Rattle.plans.specs.Lent.{plansIn};
 ghost use Rattle.plans.specs.Standing.{standing, under};
 ghost use Rattle.rule_token_bucket.specs.TokenBucket.{tokenBucket, judgementOf};
@@ -29,6 +30,16 @@ pub fn is_free(plans: &[u32], moment: Millis, number: u32, bucket: Bucket) -> bo
         return false;
     }
     crate::is_free(plans::plan_at(plans, number), moment, bucket)
+}
+
+// Whether a record may owe nothing by its own plan: if not, it is not free. No branch is made of it.
+pub fn may_be_free(plans: &[u32], moment: Millis, number: u8, bucket: Bucket) -> bool
+    requires { ⌜ Lent (plansIn (now plans)) ⌝ }
+    requires { ⌜ onClock (moment .0) ≡ true ⌝ }
+    ensures { λ r. ⌜ (r ≡ false → (known (plansIn (now (plans .entry))) number
+        && tokenBucket .free (planAt (plansIn (now (plans .entry))) number) (moment .0) bucket) ≡ false) ⌝ }
+{
+    crate::may_be_free(plans::nearest(plans, number), moment, bucket)
 }
 
 // A record of the plan asked for is judged as it is. Of another plan, who owes nothing is judged as having no record.

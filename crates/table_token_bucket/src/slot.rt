@@ -1,12 +1,12 @@
 // The record in a slot, and the slot of an acquire (document 01, 'Seats'): the own one, or else the lowest free one, which is empty
 // or owes nothing by its own plan.
 ghost use mathlib.Core.Path.{_≡_};
-ghost use mathlib.Core.Bool.{false};
+ghost use mathlib.Core.Bool.{true, false};
 ghost use Prim.Native.Nat.{ℕ, _≤_};
 ghost use lib.ListN.{length};
-ghost use Rattle.ticks.specs.Grains.{InForce};
+ghost use Rattle.ticks.specs.Grains.{onClock, InForce};
 ghost use Rattle.plans.specs.Lent.{plansIn};
-ghost use Rattle.plans.specs.Plans.{plansOf, Lending};
+ghost use Rattle.plans.specs.Plans.{plansOf, Lending, Lent};
 ghost use Rattle.table.specs.Request.{queryOf};
 ghost use Rattle.table.specs.Slots.{carries, vacant, lowestFree, seek, NoneFrom, NoneBelow};
 ghost use Rattle.table.specs.Calls.{slotFor};
@@ -94,6 +94,60 @@ fn skip(
     at
 }
 
+// Whether one of the slots from one up to another may be free, each by its own plan: if not, none is. No branch is made for each.
+fn may_be_vacant_own(
+    plans: &[u32],
+    ids: &[u32],
+    numbers: &[u8],
+    levels: &[u64],
+    lasts: &[u64],
+    moment: Millis,
+    from: usize,
+    to: usize,
+) -> bool
+    requires { ⌜ Even (now ids) (now numbers) (now levels) (now lasts) ⌝ }
+    requires { ⌜ to ≤ length (now ids) ⌝ }
+    requires { ⌜ Lent (plansIn (now plans)) ⌝ }
+    requires { ⌜ onClock (moment .0) ≡ true ⌝ }
+    ensures { λ r. ⌜ ((asked : ℕ) → r ≡ false → NoneFrom (vacant rule columns (plansOf (plansIn (now (plans .entry))) asked) (moment .0)
+        (columnsOf (now (ids .entry)) (now (numbers .entry)) (now (levels .entry)) (now (lasts .entry)))) from to) ⌝ }
+{
+    let mut may = search::may_carry(ids, from, to, 0);
+    let mut i = from;
+    while i < to {
+        may = may | planned::may_be_free(plans, moment, numbers[i], bucket_at(levels, lasts, i));
+        i += 1;
+    }
+    may
+}
+
+// The place from a given one on up to which no slot, by whole blocks, is free by its own plan.
+fn skip_own(
+    plans: &[u32],
+    ids: &[u32],
+    numbers: &[u8],
+    levels: &[u64],
+    lasts: &[u64],
+    moment: Millis,
+    from: usize,
+) -> usize
+    requires { ⌜ Even (now ids) (now numbers) (now levels) (now lasts) ⌝ }
+    requires { ⌜ from ≤ length (now ids) ⌝ }
+    requires { ⌜ Lent (plansIn (now plans)) ⌝ }
+    requires { ⌜ onClock (moment .0) ≡ true ⌝ }
+    ensures { λ r. ⌜ (from ≤ r) × (r ≤ length (now (ids .entry))) ⌝ }
+    ensures { λ r. ⌜ ((asked : ℕ) → NoneFrom (vacant rule columns (plansOf (plansIn (now (plans .entry))) asked) (moment .0)
+        (columnsOf (now (ids .entry)) (now (numbers .entry)) (now (levels .entry)) (now (lasts .entry)))) from r) ⌝ }
+{
+    let mut at = from;
+    while BLOCK <= ids.len() - at
+        && !may_be_vacant_own(plans, ids, numbers, levels, lasts, moment, at, at + BLOCK)
+    {
+        at += BLOCK;
+    }
+    at
+}
+
 // The lowest free slot before one, where none below another is free: slot by slot, each by its own plan.
 fn free_between(
     plans: &[u32],
@@ -129,7 +183,8 @@ fn free_between(
     }
 }
 
-// The lowest free slot. Blocks in which none may be free by any of the plans are passed over whole.
+// The lowest free slot. Blocks in which none may be free are passed over whole: as far as it goes by one plan that is looser than
+// each, and then each slot by its own.
 fn lowest_free(
     plans: &[u32],
     asked: u32,
@@ -147,7 +202,8 @@ fn lowest_free(
     let loosest = loosest::loosest(plans);
     let mut at = 0;
     loop {
-        let from = skip(loosest, ids, levels, lasts, moment, at);
+        let beyond = skip(loosest, ids, levels, lasts, moment, at);
+        let from = skip_own(plans, ids, numbers, levels, lasts, moment, beyond);
         let end = search::block_end(from, ids.len());
         if let Place::At(free) = free_between(
             plans,
