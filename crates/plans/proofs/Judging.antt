@@ -1,7 +1,7 @@
 -- What an engine's functions under the plans lent owe at each return, from what their callees said: how a record stands, an ask and
 -- a look. It is the same for every engine with the backlog law, so each engine's proof only cites it.
 -- Assumes nothing.
-use mathlib.Core.Path.{◌≡◌, sym, ap, ap₂, ◌∙◌}
+use mathlib.Core.Path.{◌≡◌, sym, ap, ◌∙◌}
 use mathlib.Core.Bool.{Bool, true, false, not}
 use Prim.Native.Nat.{ℕ}
 use borrow.Author.Tests.{not-true, not-false, eq-eqb, ne_eqb}
@@ -16,7 +16,7 @@ use Rattle.rate.specs.Account.{alone, judge, report, Settled, kept, settled}
 use Rattle.rate.specs.Lawful.{Lawful}
 use Rattle.rate.proofs.Answers as answers
 use Rattle.plans.specs.Plans.{Plans, Planned, known, asked, its, planned, plans_ok}
-use Rattle.plans.specs.Standing.{Standing, refused, judged, standing, report_on, settled_on, under}
+use Rattle.plans.specs.Standing.{refused, judged, standing, report_on, settled_on, under}
 use Rattle.plans.proofs.Planned.{is_possible}
 use Rattle.plans.proofs.Standing.{stands_unknown, stands_unsound, stands_owing, stands_drained, settled_standing, report_standing}
 

@@ -1,13 +1,13 @@
 -- The page of laws holds.
 -- Assumes nothing.
-use mathlib.Core.Path.{◌≡◌, refl, sym, ap, ap₂, ◌∙◌}
+use mathlib.Core.Path.{◌≡◌, refl, sym, ap, ◌∙◌}
 use mathlib.Core.Bool.{Bool, true, false, ◌&&◌, and-false}
 use mathlib.Core.List.{List, [], ◌∷◌}
 use Prim.Native.Nat.{ℕ, zero, suc, ◌≤◌, ◌<◌}
 use native.Mathlib.Omega.{arith}
-use lib.Dec.{eqb, leb, ltb}
+use lib.Dec.{eqb, leb}
 use lib.ListN.{length}
-use borrow.Author.Tests.{eq-eqb, ne_eqb, le-leb, lt-leb, lt-ltb}
+use borrow.Author.Tests.{ne_eqb, le-leb, lt-leb}
 use Rattle.ticks.specs.declared.plan.Plan.{Plan}
 use Rattle.ticks.specs.Grains.{plan_ok}
 use Rattle.rate.specs.Decision.{bare, admitted, throttled, reported}
@@ -15,8 +15,7 @@ use Rattle.rate.specs.Engine.{Engine}
 use Rattle.rate.specs.Account.{Judged, alone, judge, report}
 use Rattle.rate.proofs.Alone as engine
 use Rattle.rate.proofs.Cases as cases
-use Rattle.plans.specs.Plans.{Plans, plans_of, Planned, planned_of, most_plans, known, plan_at, all_ok, count_ok, lent_ok, plans_ok, asked, its, possible, owing, fault_of, current, planned}
-use Rattle.plans.specs.Lent.{plans_in}
+use Rattle.plans.specs.Plans.{Plans, plans_of, Planned, planned_of, most_plans, known, plan_at, all_ok, count_ok, lent_ok, plans_ok, asked, its, possible, fault_of, current, planned}
 use Rattle.plans.specs.Laws.{ListLaws, SliceLaws, RecordLaws, OnePlan, Laws, EngineLaws}
 use Rattle.plans.proofs.Lent.{lent_count, lent_none, lent_at, is_lent, is_unlent}
 use Rattle.plans.proofs.Planned.{fault_7, fault_12, fault_same, fault_drained, is_possible, is_unknown, owing_own, current_same, current_other, planned_balanced}

@@ -2,7 +2,7 @@
 -- to be judged, or to what stands in its way. And what an engine's function that finds this owes at each return.
 -- Assumes nothing.
 use mathlib.Core.Path.{◌≡◌, refl, sym, ap, ap₂, ◌∙◌}
-use mathlib.Core.Bool.{Bool, true, false, cond, false≢true}
+use mathlib.Core.Bool.{Bool, true, false, false≢true}
 use Prim.Native.Nat.{ℕ}
 use lib.Dec.{eqb}
 use borrow.Author.Tests.{eq-eqb, eqb-true}
@@ -15,7 +15,7 @@ use Rattle.rate.proofs.Answers.{bare_number, admitted_number}
 use Rattle.rate.proofs.ClockEnd.{throttled_not_0}
 use Rattle.rate.proofs.Cases.{judge_faulty, judge_admitted, judge_throttled, report_faulty, report_sound, settled_spent, settled_kept}
 use Rattle.plans.specs.Plans.{Plans, Planned, planned_of, known, plan_at, plans_ok, asked, its, possible, owing, fault_of, current, planned}
-use Rattle.plans.specs.Standing.{Standing, refused, judged, standing, report_on, settled_on, under}
+use Rattle.plans.specs.Standing.{refused, judged, standing, report_on, settled_on, under}
 use Rattle.plans.proofs.Planned.{ok_known, fault_7, fault_12, fault_drained, fault_same, is_possible, is_unknown, is_unsound, current_same, current_other}
 
 -- a judgement of which it is known what it is

@@ -1,6 +1,6 @@
 -- The laws of this crate, with document 02's numbers: which lists are good, how a list lies in a slice, and what an engine with the
 -- backlog law comes to under the plans lent. proofs/Laws shows them.
-use Rattle.std.specs.Prelude.{ℕ, ◌+◌, ◌*◌, ◌/◌, ◌%◌, ◌≤◌, ◌<◌, ◌≡◌, true, false, ◌&&◌, List, [], ◌∷◌, length, get_or}
+use Rattle.std.specs.Prelude.{ℕ, ◌+◌, ◌*◌, ◌/◌, ◌%◌, ◌≤◌, ◌<◌, ◌≡◌, true, false, List, [], ◌∷◌, length, get_or}
 use Rattle.ticks.specs.declared.plan.Plan.{Plan}
 use Rattle.ticks.specs.Grains.{plan_ok}
 use Rattle.rate.specs.Engine.{Engine}

@@ -1,4 +1,6 @@
 // Plans that a host lends together, in one slice (document 02, Item 3): limit, period and burst of plan 0, then of plan 1, and so on.
+#![tactic(auto)]
+
 ghost use Rattle.std.specs.Prelude.{◌≡◌, true, ◌<◌, min, length};
 ghost use Rattle.plans.specs.Lent.{plans_in};
 ghost use Rattle.ticks.specs.Grains.{WithinLimits};

@@ -42,7 +42,7 @@ fn looser(p: Plan, q: Plan) -> Plan
 pub fn loosest(plans: &[u32]) -> Plan
     requires { Lent (plans_in plans.now) }
     ensures within_limits { WithinLimits result }
-    ensures by_index { (k : ℕ) → k < length (plans_in plans.now) → Looser result (plan_at (plans_in plans.now) k) }
+    ensures looser { (k : ℕ) → k < length (plans_in plans.now) → Looser result (plan_at (plans_in plans.now) k) }
 {
     let lent = crate::count(plans);
     let mut loosest = crate::nth(plans, 0);

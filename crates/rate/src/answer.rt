@@ -6,7 +6,7 @@ ghost use Rattle.rate.specs.Decision.{bare};
 use ticks::units::Millis;
 
 // Why a request is refused, in the order of the checks.
-#[derive(Drop)]
+#[derive(Clone, Copy)]
 pub enum Reason {
     BadPlan,
     BadTable,
@@ -21,7 +21,7 @@ pub enum Reason {
     TableFull,
 }
 
-#[derive(Drop)]
+#[derive(Clone, Copy)]
 pub enum Outcome {
     Admitted {
         remaining: u32,
@@ -35,21 +35,21 @@ pub enum Outcome {
     Refused(Reason),
 }
 
-#[derive(Drop)]
+#[derive(Clone, Copy)]
 pub struct Answer {
     pub subscriber: u32,
     pub outcome: Outcome,
 }
 
 // The answer of a clear.
-#[derive(Drop)]
+#[derive(Clone, Copy)]
 pub enum Cleared {
     Done,
     BadTable,
 }
 
 // Document 01's five numbers of an answer, in the order of its output.
-#[derive(Drop)]
+#[derive(Clone, Copy)]
 pub struct Numbers {
     pub number: u64,
     pub subscriber: u64,

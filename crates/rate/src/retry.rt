@@ -8,7 +8,7 @@ use crate::answer::{Outcome, Reason};
 use ticks::units::{LAST_MOMENT, Millis};
 
 // A wait whose end is within the clock's limit; or document 02's "not on this clock".
-#[derive(Drop)]
+#[derive(Clone, Copy)]
 pub enum Retry {
     After(Millis),
     NotOnClock,

@@ -1,5 +1,7 @@
 // The Generic Cell Rate Algorithm on one record (document 01's paced engine). The record is the TAT: the moment, in
 // ticks, at which nothing is owed any more.
+#![tactic(auto)]
+
 ghost use Rattle.std.specs.Prelude.{◌≡◌, ℕ};
 ghost use Rattle.ticks.specs.declared.plan.Plan.{Plan};
 ghost use Rattle.ticks.specs.declared.units.Ticks.{Ticks};
@@ -18,7 +20,7 @@ pub mod drained; // which records under the plans lent are free
 pub mod planned; // an ask and a look under the plans lent
 
 // What is answered to an ask, and what becomes of the record: it is kept, or the new TAT is put in its place.
-#[derive(Drop)]
+#[derive(Clone, Copy)]
 pub enum Judgement {
     Keep(Outcome),
     Spend { outcome: Outcome, tat: Ticks },

@@ -13,7 +13,7 @@ use rate::answer::{Outcome, Reason};
 use ticks::units::{Millis, Ticks};
 
 // What stands in the way of judging a record, or else the TAT that is judged by the plan asked for.
-#[derive(Drop)]
+#[derive(Clone, Copy)]
 pub enum Standing {
     Refused(Reason),
     Judged(Ticks),

@@ -1,5 +1,7 @@
 // The token bucket on one record (document 01's bucket engine). The record is the level that an admission left, and
 // the moment of that admission; since then `limit` ticks a millisecond have come back, up to the capacity.
+#![tactic(auto)]
+
 ghost use Rattle.std.specs.Prelude.{◌≡◌, false};
 ghost use Rattle.ticks.specs.declared.plan.Plan.{Plan};
 ghost use Rattle.ticks.specs.Grains.{InForce, WithinLimits};
@@ -18,14 +20,14 @@ use ticks::units::{Millis, Ticks};
 
 pub mod planned; // an ask and a look under the plans lent, and which records are free
 
-#[derive(Drop)]
+#[derive(Clone, Copy)]
 pub struct Bucket {
     pub level: Ticks,
     pub last: Millis,
 }
 
 // What is answered to an ask, and what becomes of the record: it is kept, or the new one is put in its place.
-#[derive(Drop)]
+#[derive(Clone, Copy)]
 pub enum Judgement {
     Keep(Outcome),
     Spend { outcome: Outcome, bucket: Bucket },

@@ -14,7 +14,7 @@ use rate::answer::{Outcome, Reason};
 use ticks::units::Millis;
 
 // What stands in the way of judging a record, or else the bucket that is judged by the plan asked for.
-#[derive(Drop)]
+#[derive(Clone, Copy)]
 pub enum Standing {
     Refused(Reason),
     Judged(Bucket),
@@ -34,7 +34,7 @@ pub fn is_free(plans: &[u32], moment: Millis, number: u32, bucket: Bucket) -> bo
 // Whether a record may owe nothing by its own plan: if not, it is not free. No branch is made of it.
 pub fn may_be_free(plans: &[u32], moment: Millis, number: u8, bucket: Bucket) -> bool
     requires lent { Lent (plans_in plans.now) }
-    requires moment_value { on_clock moment.0 ≡ true }
+    requires moment_on_clock { on_clock moment.0 ≡ true }
     ensures { result ≡ false → (known (plans_in plans.now) number
         && token_bucket.free (plan_at (plans_in plans.now) number) moment.0 bucket) ≡ false }
 {

@@ -22,7 +22,7 @@ const WORD: u64 = 4_294_967_296; // 2^32
 
 const LARGEST: u64 = 18_446_744_073_709_551_615; // 2^64 - 1
 
-#[derive(Drop)]
+#[derive(Clone, Copy)]
 pub struct Plan {
     pub limit: u32,
     pub period: u32,

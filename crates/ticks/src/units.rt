@@ -5,11 +5,11 @@ ghost use Rattle.ticks.specs.Grains.{on_clock};
 use std::num;
 
 // A moment or a stretch of time, in milliseconds.
-#[derive(Drop)]
+#[derive(Clone, Copy)]
 pub struct Millis(pub u64);
 
 // Ticks (document 01's grains): a millisecond is `limit` of them, a unit costs `period`.
-#[derive(Drop)]
+#[derive(Clone, Copy)]
 pub struct Ticks(pub u64);
 
 // The latest moment, 2^42 - 1.
