@@ -8,7 +8,7 @@ use lib.Dec.{eqb}
 use borrow.Author.Tests.{eq-eqb, ltb-false}
 use Rattle.rate.specs.Answer.{answered}
 use Rattle.rate.specs.Decision.{Verdict, bare}
-use Rattle.rate.specs.Account.{Account, Judged, judge, settled}
+use Rattle.rate.specs.Account.{Account, Judged, settled}
 use Rattle.rate.specs.Balanced.{Balanced}
 use Rattle.rate.proofs.Answers.{bare_number, admitted_number}
 use Rattle.rate.proofs.Cases.{judge_faulty, judge_admitted, judge_throttled}

@@ -9,7 +9,7 @@ use ticks::units::Millis;
 // The most slots of a table; the least is 1.
 pub const MOST_SLOTS: usize = 65535;
 
-#[derive(Drop)]
+#[derive(Clone, Copy)]
 pub enum Check {
     Passed,
     Failed(Reason),

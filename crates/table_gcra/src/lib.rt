@@ -8,6 +8,8 @@
 //   clear     makes every column all zeros, and the newest moment 0
 //
 // Only an acquire that is admitted writes, and only in the subscriber's own slot and the newest moment.
+#![tactic(auto)]
+
 ghost use Rattle.std.specs.Prelude.{◌≡◌};
 ghost use Rattle.rate.specs.Answer.{numbers_of, cleared_numbers};
 ghost use Rattle.plans.specs.Lent.{plans_in};
@@ -38,9 +40,9 @@ pub fn acquire(
     plan: u32,
     cost: u32,
 ) -> Answer
-    ensures result_value { numbers_of result ≡ (acquire (request_of (plans_of (plans_in plans.now) plan) moment.0 subscriber cost)
+    ensures answer { numbers_of result ≡ (acquire (request_of (plans_of (plans_in plans.now) plan) moment.0 subscriber cost)
         (table_of ids.old numbers.old tats.old newest.old)).answer }
-    ensures newest_after { table_of ids.new numbers.new tats.new newest.new
+    ensures table_after { table_of ids.new numbers.new tats.new newest.new
         ≡ (acquire (request_of (plans_of (plans_in plans.now) plan) moment.0 subscriber cost)
         (table_of ids.old numbers.old tats.old newest.old)).after }
 {
@@ -106,8 +108,8 @@ pub fn peek(
 
 // Makes every column all zeros and the newest moment 0, if the columns are a table.
 pub fn clear(ids: &mut [u32], numbers: &mut [u8], tats: &mut [u64], newest: &mut u64) -> Cleared
-    ensures result_value { cleared_numbers result ≡ (clear (table_of ids.old numbers.old tats.old newest.old)).answer }
-    ensures newest_after { table_of ids.new numbers.new tats.new newest.new ≡ (clear
+    ensures answer { cleared_numbers result ≡ (clear (table_of ids.old numbers.old tats.old newest.old)).answer }
+    ensures table_after { table_of ids.new numbers.new tats.new newest.new ≡ (clear
         (table_of ids.old numbers.old tats.old newest.old)).after }
 {
     let slots = columns::common(columns::common(ids.len(), tats.len()), numbers.len());

@@ -16,7 +16,7 @@ use table::search::Place;
 use ticks::units::{Millis, Ticks};
 
 // A slot with the record to judge, if there is one.
-#[derive(Drop)]
+#[derive(Clone, Copy)]
 pub enum Slot {
     None,
     At {
@@ -85,7 +85,7 @@ fn may_be_vacant_own(
 fn skip_own(column: &[u64; 16], ids: &[u32], numbers: &[u8], tats: &[u64], from: usize) -> usize
     requires even { Even ids.now numbers.now tats.now }
     requires from_in_bounds { from ≤ length ids.now }
-    ensures lower_bound { (from ≤ result) × (result ≤ length ids.now) }
+    ensures in_range { (from ≤ result) × (result ≤ length ids.now) }
     ensures none_from { (p : Plans) (at : ℕ) → Lending p at → Drained p.plans at column.now →
         NoneFrom (vacant rule columns p at (columns_of ids.now numbers.now tats.now)) from result }
 {

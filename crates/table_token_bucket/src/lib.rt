@@ -9,6 +9,8 @@
 //   clear     makes every column all zeros, and the newest moment 0
 //
 // Only an acquire that is admitted writes, and only in the subscriber's own slot and the newest moment.
+#![tactic(auto)]
+
 ghost use Rattle.std.specs.Prelude.{◌≡◌};
 ghost use Rattle.rate.specs.Answer.{numbers_of, cleared_numbers};
 ghost use Rattle.plans.specs.Lent.{plans_in};
@@ -40,9 +42,9 @@ pub fn acquire(
     plan: u32,
     cost: u32,
 ) -> Answer
-    ensures result_value { numbers_of result ≡ (acquire (request_of (plans_of (plans_in plans.now) plan) moment.0 subscriber cost)
+    ensures answer { numbers_of result ≡ (acquire (request_of (plans_of (plans_in plans.now) plan) moment.0 subscriber cost)
         (table_of ids.old numbers.old levels.old lasts.old newest.old)).answer }
-    ensures newest_after { table_of ids.new numbers.new levels.new lasts.new newest.new
+    ensures table_after { table_of ids.new numbers.new levels.new lasts.new newest.new
         ≡ (acquire (request_of (plans_of (plans_in plans.now) plan) moment.0 subscriber cost)
         (table_of ids.old numbers.old levels.old lasts.old newest.old)).after }
 {
@@ -127,9 +129,9 @@ pub fn clear(
     lasts: &mut [u64],
     newest: &mut u64,
 ) -> Cleared
-    ensures result_value { cleared_numbers result ≡ (clear
+    ensures answer { cleared_numbers result ≡ (clear
         (table_of ids.old numbers.old levels.old lasts.old newest.old)).answer }
-    ensures newest_after { table_of ids.new numbers.new levels.new lasts.new newest.new ≡ (clear
+    ensures table_after { table_of ids.new numbers.new levels.new lasts.new newest.new ≡ (clear
         (table_of ids.old numbers.old levels.old lasts.old newest.old)).after }
 {
     let records = columns::common(columns::common(ids.len(), levels.len()), lasts.len());

@@ -14,7 +14,7 @@ use table::check::Check;
 use table::{check, columns};
 use ticks::units::Millis;
 
-#[derive(Drop)]
+#[derive(Clone, Copy)]
 pub enum Ruling {
     Keep(Outcome),
     Write {

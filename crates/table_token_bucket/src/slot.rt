@@ -17,7 +17,7 @@ use ticks::plan::Plan;
 use ticks::units::{Millis, Ticks};
 
 // A slot with the record to judge, if there is one.
-#[derive(Drop)]
+#[derive(Clone, Copy)]
 pub enum Slot {
     None,
     At {
@@ -78,7 +78,7 @@ fn skip(
     requires paired { Paired ids.now levels.now lasts.now }
     requires from_in_bounds { from ≤ length ids.now }
     requires in_force { InForce plan moment.0 }
-    ensures lower_bound { (from ≤ result) × (result ≤ length ids.now) }
+    ensures in_range { (from ≤ result) × (result ≤ length ids.now) }
     ensures none_from { NoneFrom (carries ids.now 0) from result
         × NoneFree plan moment.0 levels.now lasts.now from result }
 {
@@ -105,7 +105,7 @@ fn may_be_vacant_own(
     requires even { Even ids.now numbers.now levels.now lasts.now }
     requires to_in_bounds { to ≤ length ids.now }
     requires lent { Lent (plans_in plans.now) }
-    requires moment_value { on_clock moment.0 ≡ true }
+    requires moment_on_clock { on_clock moment.0 ≡ true }
     ensures { (asked : ℕ) → result ≡ false → NoneFrom (vacant rule columns (plans_of (plans_in plans.now) asked) moment.0
         (columns_of ids.now numbers.now levels.now lasts.now)) from to }
 {
@@ -131,9 +131,9 @@ fn skip_own(
     requires even { Even ids.now numbers.now levels.now lasts.now }
     requires from_in_bounds { from ≤ length ids.now }
     requires lent { Lent (plans_in plans.now) }
-    requires moment_value { on_clock moment.0 ≡ true }
-    ensures lower_bound { (from ≤ result) × (result ≤ length ids.now) }
-    ensures by_index { (asked : ℕ) → NoneFrom (vacant rule columns (plans_of (plans_in plans.now) asked) moment.0
+    requires moment_on_clock { on_clock moment.0 ≡ true }
+    ensures in_range { (from ≤ result) × (result ≤ length ids.now) }
+    ensures none_from { (asked : ℕ) → NoneFrom (vacant rule columns (plans_of (plans_in plans.now) asked) moment.0
         (columns_of ids.now numbers.now levels.now lasts.now)) from result }
 {
     let mut at = from;

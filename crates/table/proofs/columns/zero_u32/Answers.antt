@@ -1,0 +1,17 @@
+-- `table::columns::zero_u32` meets its contract: the first i elements are zeros.
+-- Assumes nothing.
+use native.Mathlib.Omega.{arith}
+use Rattle.table.proofs.Zeros.{zeroed_none, zeroed_more, zeroed_all}
+use Rattle.table.proofs.columns.zero_u32.Goals as goal
+
+pub loop-i-init : goal.loop-i-init
+loop-i-init c = zeroed_none c.args.ids.now
+
+pub bounds-ids-i : goal.bounds-ids-i
+bounds-ids-i c = omega (arith, c.loop-i.invariant.same_length)
+
+pub loop-i-preserved : goal.loop-i-preserved
+loop-i-preserved c = zeroed_more c.args.ids.now c.loop-i.i c.loop-i.ids c.loop-i-test.true c.loop-i.invariant
+
+pub returns : goal.returns
+returns c = zeroed_all c.args.ids.now c.loop-i.i c.loop-i.ids c.loop-i-test.false c.loop-i.invariant
