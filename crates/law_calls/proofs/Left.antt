@@ -27,7 +27,8 @@ use Rattle.table.specs.Places.{Own, Unknown, Vacant}
 use Rattle.table.specs.Stored.{Stored}
 use Rattle.table.proofs.Seek.{Sought, sought}
 use Rattle.table.proofs.Writes.{admission_writes_one, taken_place, denied_changes_nothing}
-use Rattle.law_calls.specs.Grounds.{Ground, throttled, admitted, admitted_new}
+use Rattle.law_calls.specs.Grounds.{Ground, stopped, throttled, admitted, admitted_new}
+use Rattle.law_calls.specs.PeekGrounds as looks
 use Rattle.law_calls.specs.PeekGrounds.{PeekGround, known, unknown}
 use Rattle.law_calls.specs.Peek.{SameReport}
 use Rattle.law_calls.specs.Left.{asking, LeftNow}
@@ -90,6 +91,7 @@ module _ {C P R : Type 0} {A : Account P R} (L : Balanced A) (K : Columns C R) (
       carries (K.ids c) q.subscriber i ≡ true → PeekGround A K q c 0 → LeftNow A K q c (peek (rule_of A) K q c).answer.left
   known_left e (known a j o s) = peek_own_left L K q c a j o s
   known_left e (unknown a u) = absurd (false≢true (sym (u i within) ∙ e))
+  known_left e (looks.stopped h) = elim h [ ]
 
   -- the lowest free slot
   in_place :
@@ -104,6 +106,7 @@ module _ {C P R : Type 0} {A : Account P R} (L : Balanced A) (K : Columns C R) (
   vacant_left e (unknown a u) =
       in_place a u e (seek (vacant (rule_of A) K q.setting q.moment c) (K.slots c))
       (sought (vacant (rule_of A) K q.setting q.moment c) (K.slots c))
+  vacant_left e (looks.stopped h) = elim h [ ]
 
   pub peek_left_now :
       (carries (K.ids c) q.subscriber i ≡ true) ⊎ (vacant (rule_of A) K q.setting q.moment c i ≡ true) →
@@ -127,6 +130,7 @@ module _ {C P R : Type 0} {A : Account P R} (L : Balanced A) (K : Columns C R) (
       Ground A K r c 8 → (acquire (rule_of A) K r c).after ≡ c → SameReport A K r c →
       LeftNow A K r.query (acquire (rule_of A) K r c).after (acquire (rule_of A) K r c).answer.left
   throttled_left (throttled p i o s a e) after same = rw (after, ← same.left) (peek_own_left L K r.query c p.asked i o s)
+  throttled_left (stopped h) after same = elim h [ ]
 
   pub acquire_left_now :
       ((acquire (rule_of A) K r c).answer.number ≡ 0) ⊎ ((acquire (rule_of A) K r c).answer.number ≡ 8) →

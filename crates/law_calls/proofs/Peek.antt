@@ -33,7 +33,7 @@ use Rattle.table.proofs.Outcomes.{writes, waits, admits, admits_new}
 use Rattle.table.proofs.Placing.{own_at, own_nowhere}
 use Rattle.table.proofs.Slots.{not_carried, carries_own, carries_other}
 use Rattle.law_calls.specs.Peek.{SameReport}
-use Rattle.law_calls.specs.Grounds.{Ground, throttled, admitted, admitted_new}
+use Rattle.law_calls.specs.Grounds.{Ground, stopped, throttled, admitted, admitted_new}
 use Rattle.law_calls.proofs.Numbers.{grounds}
 
 -- what a look is answered, for any rule
@@ -118,6 +118,7 @@ module _ {C P R : Type 0} {A : Account P R} (L : Balanced A) (K : Columns C R) (
   shows_by (admitted_new p i u v) =
       shows (fresh_at A r) i p v.within (λ j l. u j (omega (arith, v.within)))
       (fresh_admits L r.query.setting r.query.moment r.cost (ltb-false _ _ p.burst)) (admits_new L K r c p i u v)
+  shows_by (stopped h) = elim h [ ]
 
   -- after an acquire that was admitted a peek at the same moment gives the same five numbers
   pub peek_after_admission :
@@ -144,6 +145,7 @@ module _ {C P R : Type 0} {A : Account P R} (L : Balanced A) (K : Columns C R) (
             ∙ sym (ap (λ (x : Step C). x.answer.reset) said ∙ answered_reset r.query.subscriber (throttled_at A r (K.row c i))
             ∙ throttled_reset (A.plan r.query.setting) r.query.moment (owed_at A r (K.row c i)) r.cost e);
       }
+  same_report (stopped h) = elim h [ ]
 
   pub peek_of_denied : (acquire (rule_of A) K r c).answer.number ≡ 8 → SameReport A K r c
   peek_of_denied e = same_report (grounds A K r c L e)

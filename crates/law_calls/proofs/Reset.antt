@@ -30,8 +30,9 @@ use Rattle.table.proofs.Cases.{held_own, held_fresh}
 use Rattle.table.proofs.Placing.{own_at, own_nowhere}
 use Rattle.table.proofs.Writes.{admission_writes_one, taken_place, denied_changes_nothing}
 use Rattle.law_calls.specs.Reset.{whole_burst, owed, FirstDrained, WholeBurst, ResetMoment}
-use Rattle.law_calls.specs.Grounds.{Ground, throttled, not_on_clock, admitted}
+use Rattle.law_calls.specs.Grounds.{Ground, stopped, throttled, not_on_clock, admitted}
 use Rattle.law_calls.specs.Peek.{SameReport}
+use Rattle.law_calls.specs.PeekGrounds as looks
 use Rattle.law_calls.specs.PeekGrounds.{PeekGround, known, unknown}
 use Rattle.law_calls.proofs.Newest.{asked_later}
 use Rattle.law_calls.proofs.Numbers.{decides, grounds}
@@ -137,6 +138,7 @@ module _ {C P R : Type 0} {A : Account P R} (L : Balanced A) (K : Columns C R) (
   drained_by : PeekGround A K q c 0 → FirstDrained A K q c (peek (rule_of A) K q c).answer.reset
   drained_by (known a i o s) = (peek_own_reset L K q c a i o s).first_drained
   drained_by (unknown a u) = peek_unknown_drained L K q c a u
+  drained_by (looks.stopped h) = elim h [ ]
 
   pub peek_first_drained :
       (peek (rule_of A) K q c).answer.number ≡ 0 → FirstDrained A K q c (peek (rule_of A) K q c).answer.reset
@@ -146,6 +148,7 @@ module _ {C P R : Type 0} {A : Account P R} (L : Balanced A) (K : Columns C R) (
     held_by : PeekGround A K q c 0 → ResetMoment A K q c (peek (rule_of A) K q c).answer.reset
     held_by (known a i o s) = peek_own_reset L K q c a i o s
     held_by (unknown a u) = absurd (false≢true (sym (u i within) ∙ carried))
+    held_by (looks.stopped h) = elim h [ ]
 
     -- of a subscriber with a slot
     pub peek_held_reset : (peek (rule_of A) K q c).answer.number ≡ 0 → ResetMoment A K q c (peek (rule_of A) K q c).answer.reset
@@ -168,6 +171,7 @@ module _ {C P R : Type 0} {A : Account P R} (L : Balanced A) (K : Columns C R) (
       ResetMoment A K r.query (acquire (rule_of A) K r c).after (acquire (rule_of A) K r c).answer.reset
   throttled_reset (throttled p i o s a e) after same =
       rw (after, ← same.reset) (peek_own_reset L K r.query c p.asked i o s)
+  throttled_reset (stopped h) after same = elim h [ ]
 
   pub acquire_reset :
       ((acquire (rule_of A) K r c).answer.number ≡ 0) ⊎ ((acquire (rule_of A) K r c).answer.number ≡ 8) →

@@ -24,7 +24,7 @@ use Rattle.table.specs.Passed.{Payable}
 use Rattle.table.specs.Places.{Own}
 use Rattle.table.proofs.Outcomes.{stays, waits}
 use Rattle.law_calls.specs.Wait.{later, LeastWait, NeverServed}
-use Rattle.law_calls.specs.Grounds.{Ground, throttled, not_on_clock, admitted}
+use Rattle.law_calls.specs.Grounds.{Ground, stopped, throttled, not_on_clock, admitted}
 use Rattle.law_calls.proofs.Newest.{asked_later}
 use Rattle.law_calls.proofs.Numbers.{decides, grounds}
 use Rattle.law_calls.proofs.Zeros.{refusal}
@@ -92,6 +92,7 @@ module _ {C P R : Type 0} {A : Account P R} (L : Balanced A) (K : Columns C R) (
       (sym (ap (λ (x : Step C). x.answer.wait) (waits A K r c p i o s a) ∙ answered_wait r.query.subscriber (throttled_at A r (K.row c i))
       ∙ ap (λ (v : Verdict). v.wait) (throttled_8 (A.plan r.query.setting) r.query.moment (owed_at A r (K.row c i)) r.cost e)))
       (least p i o s a e)
+  wait_of (stopped h) = elim h [ ]
 
   pub call_least_wait : (acquire (rule_of A) K r c).answer.number ≡ 8 → LeastWait A K r c (acquire (rule_of A) K r c).answer.wait
   call_least_wait e = wait_of (grounds A K r c L e)
@@ -107,6 +108,7 @@ module _ {C P R : Type 0} {A : Account P R} (L : Balanced A) (K : Columns C R) (
         never = never p i o s e;
         soon = omega (arith, off_clock (r.query.moment + wait_at A r (K.row c i)) e, most p i o s);
       }
+  unserved (stopped h) = elim h [ ]
 
   pub call_never_served : (acquire (rule_of A) K r c).answer.number ≡ 13 → NeverServed A K r c
   call_never_served e = unserved (grounds A K r c L e)

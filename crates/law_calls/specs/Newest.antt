@@ -1,5 +1,5 @@
 -- Document 02, Item 6: the newest moment at which anything was admitted, of any rule. A call at an earlier one gets 11; who writes it.
-use Rattle.std.specs.Prelude.{ℕ, ◌<◌, ◌≡◌, true, false, eqb}
+use Rattle.std.specs.Prelude.{◌<◌, ◌≡◌, true, false, eqb}
 use Rattle.ticks.specs.Grains.{on_clock, last_moment}
 use Rattle.table.specs.Request.{Query, Request}
 use Rattle.table.specs.Checks.{slots_ok}
