@@ -15,7 +15,7 @@ const MOST_64: u64 = 18_446_744_073_709_551_615;
 
 const MOST_32: u64 = 4_294_967_295;
 
-#[derive(Drop)]
+#[derive(Clone, Copy)]
 pub enum Command {
     Plan {
         slots: u32,

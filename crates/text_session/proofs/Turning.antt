@@ -2,12 +2,9 @@
 -- Assumes nothing.
 use mathlib.Core.Path.{◌≡◌, refl, sym, ap, subst, ◌∙◌}
 use mathlib.Core.Bool.{Bool, true, false, cond, ◌&&◌}
-use mathlib.Core.List.{List, [], ◌∷◌}
-use mathlib.Core.Logic.{inl, inr}
+use mathlib.Core.List.{List}
 use Prim.Native.Nat.{ℕ, ◌≤◌}
 use native.Mathlib.Omega.{arith}
-use types.Run.{OneOf}
-use denote.Enum.Declared.{tag_of}
 use lib.Dec.{leb}
 use borrow.Author.Tests.{leb-true}
 use Rattle.rate.specs.declared.answer.Answer.{Answer}
@@ -23,7 +20,6 @@ use Rattle.table_gcra.specs.Table.{Table, acquire, clear}
 use Rattle.text_protocol.specs.declared.command.Command.{Command}
 use Rattle.text_protocol.specs.declared.command.Command.TheVariants.{Plan, Ask, Unreadable}
 use Rattle.text_protocol.specs.Reply.{refusal, unreadable}
-use Rattle.text_protocol.specs.contracts.command.Command.{the_type}
 use Rattle.text_session.specs.declared.Opening.{Opening}
 use Rattle.text_session.specs.declared.Opening.TheVariants.{Refused, Opened}
 use Rattle.text_session.specs.declared.Reply.TheVariants.{Nothing, Numbers}
@@ -33,10 +29,9 @@ use Rattle.text_session.specs.Session.{text_slots, opening, only, turn, part, ba
 use Rattle.text_session.proofs.Columns.{back_same}
 
 -- the first line: it is no plan
-pub opening_no_plan : (c : Command) → OneOf (1 ∷ 2 ∷ []) (tag_of the_type c) → Refused unreadable ≡ opening c
+pub opening_no_plan : (c : Command) → ((slots : ℕ) (plan : plan.Plan) → c ≡ Plan slots plan → ⊥) → Refused unreadable ≡ opening c
 unfolding opening
-opening_no_plan (Plan slots plan) (inl e) = absurd (omega (arith, e))
-opening_no_plan (Plan slots plan) (inr e) = absurd (omega (arith, e))
+opening_no_plan (Plan slots plan) o = absurd (o slots plan refl)
 opening_no_plan (Ask moment subscriber cost) o = refl
 opening_no_plan Unreadable o = refl
 
@@ -99,20 +94,19 @@ module _ (c : Command) (t : Table) where
 module _ (plan : plan.Plan) (slots : ℕ) (c : Command) (t : Table) where
   -- it is no ask
   no_ask :
-      OneOf (0 ∷ 2 ∷ []) (tag_of the_type c) → turn plan c (part slots t) ≡ record { answer = refusal unreadable; after = part slots t }
+      ((moment subscriber cost : ℕ) → c ≡ Ask moment subscriber cost → ⊥) → turn plan c (part slots t) ≡ record { answer = refusal unreadable; after = part slots t }
   unfolding turn
   no_ask = by c
     where
       by :
-          (d : Command) → OneOf (0 ∷ 2 ∷ []) (tag_of the_type d) →
+          (d : Command) → ((moment subscriber cost : ℕ) → d ≡ Ask moment subscriber cost → ⊥) →
           turn plan d (part slots t) ≡ record { answer = refusal unreadable; after = part slots t }
-      by (Ask moment subscriber cost) (inl e) = absurd (omega (arith, e))
-      by (Ask moment subscriber cost) (inr e) = absurd (omega (arith, e))
+      by (Ask moment subscriber cost) o = absurd (o moment subscriber cost refl)
       by (Plan another_slots another) o = refl
       by Unreadable o = refl
 
   pub other_refused :
-      {m : numbers.Numbers} → OneOf (0 ∷ 2 ∷ []) (tag_of the_type c) → m ≡ refusal unreadable →
+      {m : numbers.Numbers} → ((moment subscriber cost : ℕ) → c ≡ Ask moment subscriber cost → ⊥) → m ≡ refusal unreadable →
       record { reply = Numbers m; stage = Open plan slots; table = t } ≡ other plan slots c t
   other_refused o e k =
       record {

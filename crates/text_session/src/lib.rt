@@ -1,5 +1,7 @@
 // How far a run of the text program has come, and what a line is told (document 01, 'The tabbed text'). Nothing is written here
 // but the columns and the newest moment.
+#![tactic(auto)]
+
 ghost use Rattle.std.specs.Prelude.{◌≡◌, ◌&&◌, leb};
 ghost use Rattle.table_gcra.specs.Table.{table_of};
 ghost use Rattle.text_session.specs.Session.{opening, text_slots, first, other, answer, unended, Lent, Room, Bounded, told_of};
@@ -16,7 +18,7 @@ use ticks::units::Millis;
 pub const TEXT_SLOTS: usize = 1024;
 
 // Before the first line; after a good one; after a bad one, which ends the run.
-#[derive(Drop)]
+#[derive(Clone, Copy)]
 pub enum Stage {
     First,
     Open { plan: Plan, slots: usize },
@@ -24,21 +26,21 @@ pub enum Stage {
 }
 
 // What the first line comes to: a number, which ends the run, or a plan and its slots.
-#[derive(Drop)]
+#[derive(Clone, Copy)]
 pub enum Opening {
     Refused(u64),
     Opened { plan: Plan, slots: usize },
 }
 
 // What a line gets: no answer, or five numbers.
-#[derive(Drop)]
+#[derive(Clone, Copy)]
 pub enum Reply {
     Nothing,
     Numbers(Numbers),
 }
 
 // What a line leads to, and what it gets.
-#[derive(Drop)]
+#[derive(Clone, Copy)]
 pub struct Turn {
     pub stage: Stage,
     pub reply: Reply,

@@ -1,5 +1,7 @@
 // The input piece by piece to the output, in constant memory (document 01, 'The tabbed text'): a line is read where it stands in the
 // piece and answered at its LF, and only one that goes on in the next piece is kept.
+#![tactic(auto)]
+
 ghost use Rattle.std.specs.Prelude.{◌≡◌, true, ◌++◌, ◌+◌, ◌≤◌, min, length, take};
 ghost use Rattle.std.proofs.lemmas.List.Edits.{sets};
 ghost use Rattle.table_gcra.specs.Table.{table_of};
@@ -16,14 +18,14 @@ use text_tsv::bytes;
 use text_tsv::bytes::LF;
 
 // How far a run has come: its stage, and how many bytes of the unfinished line are held.
-#[derive(Drop)]
+#[derive(Clone, Copy)]
 pub struct Session {
     pub stage: Stage,
     pub held: usize,
 }
 
 // The session after a piece of the input, and where the next byte of the output goes.
-#[derive(Drop)]
+#[derive(Clone, Copy)]
 pub struct Fed {
     pub session: Session,
     pub at: usize,
@@ -96,7 +98,7 @@ fn end_line(
 ) -> Fed
     requires ready { Ready session line.old }
     requires lent { Lent ids.old numbers.old tats.old }
-    requires lf_in_bounds { at + length (says (kept (state_of session line.old (table_of ids.old numbers.old tats.old newest.old)) rest.now) lf)
+    requires room { at + length (says (kept (state_of session line.old (table_of ids.old numbers.old tats.old newest.old)) rest.now) lf)
         ≤ length out.old }
     ensures { Moved
         (says (kept (state_of session line.old
@@ -131,7 +133,7 @@ pub fn feed(
 ) -> Fed
     requires ready { Ready session line.old }
     requires lent { Lent ids.old numbers.old tats.old }
-    requires piece_in_bounds { at + length (said (state_of session line.old (table_of ids.old numbers.old tats.old newest.old)) piece.now)
+    requires room { at + length (said (state_of session line.old (table_of ids.old numbers.old tats.old newest.old)) piece.now)
         ≤ length out.old }
     ensures { Moved
         (said (state_of session line.old
@@ -164,7 +166,7 @@ pub fn feed(
 // The input's end: a last line without LF.
 pub fn finish(session: Session, line: &[u8], out: &mut [u8], at: usize) -> usize
     requires ready { Ready session line.now }
-    requires line_in_bounds { at + length (ending_of session line.now) ≤ length out.old }
+    requires room { at + length (ending_of session line.now) ≤ length out.old }
     ensures { (result ≡ at + length (ending_of session line.now))
         × (out.new ≡ sets out.old at (ending_of session line.now)) }
 {

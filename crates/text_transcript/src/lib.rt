@@ -1,4 +1,6 @@
 // A whole input text to the whole output text, over a table and an output that a host lends (document 01, 'The tabbed text').
+#![tactic(auto)]
+
 ghost use Rattle.std.specs.Prelude.{◌≡◌, cond, ◌+◌, ◌≤◌, eqb, length};
 ghost use Rattle.std.proofs.lemmas.List.Edits.{sets};
 ghost use Rattle.table_gcra.specs.Table.{table_of};
@@ -16,7 +18,7 @@ use text_tsv::bytes::LF;
 
 // How many bytes were written; or nothing was, since the columns have fewer than 1,024 slots or the output is shorter than
 // the header and a longest line for each line of the text and one more.
-#[derive(Drop)]
+#[derive(Clone, Copy)]
 pub enum Transcribed {
     Written(usize),
     ShortTable,
@@ -58,10 +60,10 @@ fn run(
     out: &mut [u8],
 ) -> usize
     requires lent { Lent ids.old numbers.old tats.old }
-    requires text_in_bounds { room text.now ≤ length out.old }
-    ensures value { (result ≡ length (transcript text.now))
+    requires room { room text.now ≤ length out.old }
+    ensures written { (result ≡ length (transcript text.now))
         × (out.new ≡ sets out.old 0 (transcript text.now)) }
-    ensures newest_after { table_of ids.new numbers.new tats.new newest.new
+    ensures table_after { table_of ids.new numbers.new tats.new newest.new
         ≡ (after (start (table_of ids.old numbers.old tats.old newest.old)) text.now).table }
 {
     let mut line = [0u8; MOST_LINE];
@@ -89,9 +91,9 @@ pub fn transcribe(
     newest: &mut u64,
     out: &mut [u8],
 ) -> Transcribed
-    ensures value { result ≡ (transcribed text.now
+    ensures answer { result ≡ (transcribed text.now
         (table_of ids.old numbers.old tats.old newest.old) out.old).answer }
-    ensures out_after { lent_of (table_of ids.new numbers.new tats.new newest.new) out.new
+    ensures left { lent_of (table_of ids.new numbers.new tats.new newest.new) out.new
         ≡ (transcribed text.now
         (table_of ids.old numbers.old tats.old newest.old) out.old).left }
 {

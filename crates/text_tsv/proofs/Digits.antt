@@ -1,18 +1,8 @@
 -- The digits of a number: those of a tenth of it and its last, or those of a hundredth and its last two; and how many they are, by the
 -- powers of ten.
 -- Assumes nothing.
-use mathlib.Core.Path.{◌≡◌, refl, sym, ap, ◌∙◌}
-use mathlib.Core.Bool.{Bool, true, false, cond}
-use mathlib.Core.List.{List, [], ◌∷◌, ◌++◌}
-use mathlib.Core.Logic.{◌⊎◌, inl, inr}
-use Prim.Native.Nat.{ℕ, zero, suc, ◌+◌, ◌*◌, ◌/◌, ◌%◌, ◌^◌, ◌≤◌, ◌<◌}
-use native.Mathlib.Numerals.{add-one}
-use native.Mathlib.Omega.{arith}
-use native.Mathlib.Nat.{div-lt_iff_lt-mul, le-div_iff_mul-le}
-use lib.Dec.{ltb}
-use lib.ListN.{length, length-append}
-use lib.Seq.{append_snoc}
-use borrow.Author.Tests.{lt-ltb, le-ltb, ltb-true, ltb-false}
+use Rattle.std.proofs.Common.{◌≡◌, ℕ, zero, suc, ◌+◌, ◌*◌, ◌/◌, ◌%◌, ◌^◌, ◌<◌, ◌≤◌, Bool, true, false, cond, ltb, ◌⊎◌, List, [], ◌∷◌, ◌++◌, length, sym, refl, ap, ◌∙◌, inl, inr, div-lt_iff_lt-mul, le-div_iff_mul-le, add-one, arith, length-append, ltb-false, ltb-true, le-ltb, lt-ltb}
+use Rattle.std.proofs.Math.Seq.{append_snoc}
 use Rattle.text_tsv.specs.Decimal.{digit, digits_up_to, digits, cell}
 
 -- so many digits are enough
@@ -47,6 +37,7 @@ enough_64 n h = enough 19 n (omega arith)
 -- one more than enough makes no difference
 settled : (k n : ℕ) → Enough k n → digits_up_to (suc k) n ≡ digits_up_to k n
 unfolding digits_up_to
+settled zero n e = absurd e
 settled (suc k) n (inl h) = rw (lt-ltb n 10 h)
 settled (suc k) n (inr e) = ap (λ (s : List ℕ). cond (ltb n 10) (digit n ∷ []) (s ++ (digit (n % 10) ∷ []))) (settled k (n / 10) e)
 
@@ -119,6 +110,7 @@ digits_above (suc w) n h l =
 
 -- and no more than one that it does not reach
 pub digits_below : (w n : ℕ) → 1 ≤ w → n < tens w → n < 2 ^ 64 → length (digits n) ≤ w
+digits_below zero n m h l = absurd (omega arith)
 digits_below (suc zero) n m h l = omega (arith, digits_one n h)
 digits_below (suc (suc w)) n m h l =
     by (ltb n 10) refl (digits_below (suc w) (n / 10) (omega arith) ((div-lt_iff_lt-mul {k = 10} (omega arith)).1 h) (omega arith))

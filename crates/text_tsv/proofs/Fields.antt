@@ -1,10 +1,7 @@
 -- The fields of a line from its start, and what a field reader's answer says of them.
 -- Assumes nothing.
-use mathlib.Core.Path.{◌≡◌, ap}
-use mathlib.Core.List.{List}
-use Prim.Native.Nat.{ℕ}
-use lib.Dec.{leb-zero}
-use lib.ListN.{length}
+use Rattle.std.proofs.Common.{◌≡◌, ℕ, List, length, ap}
+use Rattle.std.proofs.Math.Dec.{leb-zero}
 use Rattle.text_tsv.specs.declared.field.Field as field
 use Rattle.text_tsv.specs.Text.{fields}
 use Rattle.text_tsv.specs.Fields.{unreadable, number, fields_at, taken_of}

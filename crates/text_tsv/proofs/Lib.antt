@@ -11,4 +11,3 @@ pub mod WrittenRead
 pub mod Numerals
 pub mod Parts
 pub mod Laws
-pub mod Walking

@@ -1,11 +1,7 @@
 -- The lines of a text whose first line has begun already: the bytes of the beginning stand in front of the first line that
 -- is left. A byte that is read moves from the text to the beginning, until an LF ends the line.
 -- Assumes nothing.
-use mathlib.Core.Path.{◌≡◌, refl, ap}
-use mathlib.Core.Bool.{true, false}
-use mathlib.Core.List.{List, [], ◌∷◌, ◌++◌}
-use Prim.Native.Nat.{ℕ}
-use lib.Dec.{eqb}
+use Rattle.std.proofs.Common.{◌≡◌, ℕ, true, false, eqb, List, [], ◌∷◌, ◌++◌, refl, ap}
 use Rattle.text_tsv.specs.Text.{Line, lf, longer, lines}
 
 abbrev pub ended_line : List ℕ → Line

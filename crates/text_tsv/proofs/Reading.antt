@@ -1,11 +1,6 @@
 -- A number read digit by digit.
 -- Assumes nothing.
-use mathlib.Core.Path.{◌≡◌, refl, sym, ap, ◌∙◌}
-use mathlib.Core.List.{List, [], ◌∷◌}
-use Prim.Native.Nat.{ℕ, ◌+◌, ◌≤◌, ◌<◌}
-use native.Mathlib.Omega.{arith}
-use lib.ListN.{length, get_or, drop, drop_of_length-le}
-use borrow.Author.Tests.{eq-eqb, ne_eqb}
+use Rattle.std.proofs.Common.{◌≡◌, ℕ, ◌+◌, ◌<◌, ◌≤◌, List, [], ◌∷◌, length, get_or, drop, sym, refl, ap, ◌∙◌, arith, drop_of_length-le, eq-eqb, ne_eqb}
 use Rattle.text_tsv.specs.declared.decimal.Number.{Number}
 use Rattle.text_tsv.specs.declared.decimal.Number.TheVariants.{Value, Unreadable}
 use Rattle.text_tsv.specs.Decimal.{appended, more, onwards, alone, decimal}
@@ -65,3 +60,5 @@ module _ (most : ℕ) where
   unfolding decimal
   decimal_digits [] n e = absurd (n refl)
   decimal_digits (b ∷ s) n e = rw (ne_eqb b 48 e)
+
+pub ruleset by_first_byte = (decimal_empty, decimal_zero, decimal_leading, decimal_digits)

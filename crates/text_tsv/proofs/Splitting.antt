@@ -1,14 +1,8 @@
 -- A line's first field is what stands before its first tab, and the others are the fields after it.
 -- Assumes nothing.
-use mathlib.Core.Path.{◌≡◌, refl, sym, ap, ◌∙◌}
-use mathlib.Core.Bool.{Bool, true, false, cond}
-use mathlib.Core.List.{List, [], ◌∷◌}
-use Prim.Native.Nat.{ℕ, suc, ◌+◌, ◌-◌, ◌≤◌, ◌<◌}
-use native.Mathlib.Omega.{arith}
-use lib.Dec.{eqb, leb, ltb, leb-zero, leb-suc-suc}
-use lib.ListN.{length, take, drop, length-drop}
-use lib.Seq.{drop-drop}
-use borrow.Author.Tests.{le-leb, lt-leb, lt-ltb, le-ltb, leb-true, leb-false}
+use Rattle.std.proofs.Common.{◌≡◌, ℕ, suc, ◌+◌, ◌-◌, ◌<◌, ◌≤◌, Bool, true, false, cond, eqb, ltb, leb, List, [], ◌∷◌, length, take, drop, sym, refl, ap, ◌∙◌, arith, length-drop, drop-drop, le-ltb, lt-ltb, le-leb, leb-false, leb-true}
+use Rattle.std.proofs.Math.Dec.{leb-zero, leb-suc-suc}
+use Rattle.std.proofs.lemmas.Bool.{lt-leb}
 use Rattle.text_tsv.specs.Text.{fields, wider, up_to, tab}
 use Rattle.text_tsv.specs.declared.decimal.Number.{Number}
 use Rattle.text_tsv.specs.declared.decimal.Number.TheVariants.{Value, Unreadable}

@@ -1,12 +1,6 @@
 -- A number that is taken off the front of some fields is at most its most.
 -- Assumes nothing.
-use mathlib.Core.Path.{◌≡◌, refl, sym, subst}
-use mathlib.Core.Bool.{Bool, true, false, cond, ◌&&◌}
-use mathlib.Core.List.{List, [], ◌∷◌}
-use Prim.Native.Nat.{ℕ, ◌+◌, ◌-◌, ◌*◌, ◌≤◌}
-use native.Mathlib.Omega.{arith}
-use lib.Dec.{eqb, leb}
-use borrow.Author.Tests.{leb-true}
+use Rattle.std.proofs.Common.{◌≡◌, ℕ, ◌+◌, ◌-◌, ◌*◌, ◌≤◌, Bool, true, false, cond, ◌&&◌, eqb, leb, List, [], ◌∷◌, sym, refl, subst, arith, leb-true}
 use Rattle.text_tsv.specs.declared.decimal.Number.{Number}
 use Rattle.text_tsv.specs.declared.decimal.Number.TheVariants.{Value, Unreadable}
 use Rattle.text_tsv.specs.Decimal.{digit, is_digit, appended, more, onwards, alone, decimal}

@@ -1,14 +1,7 @@
 -- A number that is written and read is the number.
 -- Assumes nothing.
-use mathlib.Core.Path.{◌≡◌, refl, ap, ◌∙◌}
-use mathlib.Core.Bool.{Bool, true, false, cond}
-use mathlib.Core.List.{List, [], ◌∷◌, ◌++◌}
-use mathlib.Core.Logic.{inl, inr}
-use Prim.Native.Nat.{ℕ, zero, suc, ◌+◌, ◌-◌, ◌*◌, ◌/◌, ◌%◌, ◌^◌, ◌≤◌, ◌<◌}
-use native.Mathlib.Omega.{arith}
-use lib.Dec.{ltb}
-use lib.ListN.{length, get_or, length-append, get_or-append}
-use borrow.Author.Tests.{le-leb, lt-ltb, ltb-true, ltb-false}
+use Rattle.std.proofs.Common.{◌≡◌, ℕ, zero, suc, ◌+◌, ◌-◌, ◌*◌, ◌/◌, ◌%◌, ◌^◌, ◌<◌, ◌≤◌, Bool, true, false, cond, ltb, List, [], ◌∷◌, ◌++◌, length, get_or, refl, ap, ◌∙◌, inl, inr, arith, length-append, ltb-false, ltb-true, lt-ltb, le-leb}
+use Rattle.std.proofs.Math.ListN.{get_or-append}
 use Rattle.text_tsv.specs.declared.decimal.Number.{Number}
 use Rattle.text_tsv.specs.declared.decimal.Number.TheVariants.{Value}
 use Rattle.text_tsv.specs.Decimal.{digit, is_digit, appended, more, onwards, decimal, digits_up_to, digits}
@@ -48,6 +41,7 @@ module _ (most : ℕ) where
   -- digit by digit it comes to the number
   read_back : (k n : ℕ) → Enough k n → n ≤ most → onwards most (Value 0) (digits_up_to k n) ≡ Value n
   unfolding digits_up_to
+  read_back zero n e l = absurd e
   read_back (suc k) n (inl h) l = rw (lt-ltb n 10 h) (read_one n h l)
   read_back (suc k) n (inr e) l = by (ltb n 10) refl (read_more n (digits_up_to k (n / 10)) (read_back k (n / 10) e (omega arith)) l)
     where
@@ -59,6 +53,7 @@ module _ (most : ℕ) where
 
 least : (k n : ℕ) → Enough k n → 1 ≤ length (digits_up_to k n)
 unfolding digits_up_to
+least zero n e = absurd e
 least (suc k) n e = by (ltb n 10)
   where
     by : (t : Bool) → 1 ≤ length (cond t (digit n ∷ []) (digits_up_to k (n / 10) ++ (digit (n % 10) ∷ [])))
@@ -68,6 +63,7 @@ least (suc k) n e = by (ltb n 10)
 -- a number that is not 0 has no leading 0
 leading : (k n : ℕ) → Enough k n → 1 ≤ n → 48 < get_or (digits_up_to k n) 0 0
 unfolding digits_up_to
+leading zero n e l = absurd e
 leading (suc k) n (inl h) l = rw (lt-ltb n 10 h) (omega arith)
 leading (suc k) n (inr e) l = by (ltb n 10) refl (leading k (n / 10) e) (least k (n / 10) e)
   where

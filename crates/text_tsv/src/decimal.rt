@@ -3,7 +3,7 @@ ghost use Rattle.std.specs.Prelude.{◌≡◌, [], ◌∷◌, ◌+◌, ◌/◌, 
 ghost use Rattle.std.proofs.lemmas.List.Edits.{sets};
 ghost use Rattle.text_tsv.specs.Decimal.{appended, onwards, decimal, digit, digits, cell};
 
-#[derive(Drop)]
+#[derive(Clone, Copy)]
 pub enum Number {
     Value(u64),
     Unreadable,
@@ -49,6 +49,7 @@ fn value(text: &[u8], most: u64) -> Number
 }
 
 // A field as a number that is at most `most`.
+#[tactic(auto, using(crate::proofs::Reading::by_first_byte))]
 pub fn read(text: &[u8], most: u64) -> Number
     ensures { result ≡ decimal most text.now }
 {

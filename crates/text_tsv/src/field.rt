@@ -7,14 +7,14 @@ use crate::bytes::TAB;
 use crate::decimal::Number;
 use crate::{bytes, decimal};
 
-#[derive(Drop)]
+#[derive(Clone, Copy)]
 pub enum Field {
     Number { value: u64, next: usize },
     Unreadable,
 }
 
-// A lent text, and the place in it where the next field begins. A function over it is proved by hand, so callers use `number`.
-#[derive(Drop)]
+// A lent text, and the place in it where the next field begins. Callers use `number`.
+#[derive(Clone, Copy)]
 pub struct Reader<'a> {
     text: &'a [u8],
     at: usize,
