@@ -1,6 +1,13 @@
 // What the program works in. Each function's `ensures` gives the length alone.
 ghost use Rattle.std.specs.Prelude.{◌≡◌, length};
 
+// A piece of the input.
+pub fn piece() -> [u8; 4096]
+    ensures { 4096 ≡ length result }
+{
+    [0; 4096]
+}
+
 // The unfinished line.
 pub fn line() -> [u8; 128]
     ensures { 128 ≡ length result }
@@ -27,7 +34,7 @@ pub fn tats() -> [u64; 1024]
     [0; 1024]
 }
 
-// The answers to a piece of 4,096 bytes: each of them may end a line, and a line's answer has at most 105 bytes.
+// The answers to a piece: each of its 4,096 bytes may end a line, and a line's answer has at most 105 bytes.
 pub fn out() -> [u8; 430080]
     ensures { 430080 ≡ length result }
 {

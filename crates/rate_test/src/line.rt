@@ -1,53 +1,50 @@
-// Lines of tabbed numbers on standard output.
+// Lines of tabbed numbers on standard output. What cannot be written is missing there, and nothing else tells of it.
 use rate::answer::Numbers;
 use ticks::plan::Plan;
 
-const STDOUT: i32 = 1;
-
 // A line of words.
-pub fn title(text: &[u8]) {
-    io::write_all(STDOUT, b"# ");
-    io::write_all(STDOUT, text);
-    end();
+pub fn title(rt: &impl Print, text: &[u8]) {
+    word(rt, b"# ");
+    word(rt, text);
+    end(rt);
 }
 
 // The first word of a line.
-pub fn word(text: &[u8]) {
-    io::write_all(STDOUT, text);
+pub fn word(rt: &impl Print, text: &[u8]) {
+    let _ = rt.write_all(text);
 }
 
 // A tab and a number.
-pub fn number(n: u64) {
-    io::write_all(STDOUT, b"\t");
-    io::print_decimal(STDOUT, n);
+pub fn number(rt: &impl Print, n: u64) {
+    let _ = print!(rt; "\t{n}");
 }
 
 // A tab, and 1 or 0.
-pub fn flag(b: bool) {
+pub fn flag(rt: &impl Print, b: bool) {
     if b {
-        number(1);
+        number(rt, 1);
     } else {
-        number(0);
+        number(rt, 0);
     }
 }
 
 // Limit, period and burst.
-pub fn plan(p: Plan) {
-    number(p.limit as u64);
-    number(p.period as u64);
-    number(p.burst as u64);
+pub fn plan(rt: &impl Print, p: Plan) {
+    number(rt, p.limit as u64);
+    number(rt, p.period as u64);
+    number(rt, p.burst as u64);
 }
 
 // The five numbers of an answer, and the line's end.
-pub fn numbers(n: Numbers) {
-    number(n.number);
-    number(n.subscriber);
-    number(n.left);
-    number(n.reset);
-    number(n.wait);
-    end();
+pub fn numbers(rt: &impl Print, n: Numbers) {
+    number(rt, n.number);
+    number(rt, n.subscriber);
+    number(rt, n.left);
+    number(rt, n.reset);
+    number(rt, n.wait);
+    end(rt);
 }
 
-pub fn end() {
-    io::write_all(STDOUT, b"\n");
+pub fn end(rt: &impl Print) {
+    word(rt, b"\n");
 }

@@ -1,18 +1,20 @@
 // Runs what no call shows by itself, on each limit at it and one beyond. Each line has its input before its output, so that another
 // program can reckon it again (hosts/rust).
+#![tactic(auto)]
+
 mod cases;
 mod line;
 mod reckon;
 
-fn main() {
-    line::title(b"refusals and clears");
-    cases::answers();
-    line::title(b"plans");
-    cases::plans();
-    line::title(b"moments");
-    cases::moments();
-    line::title(b"waits");
-    cases::waits();
-    line::title(b"division rounded up");
-    cases::divisions();
+fn main(rt: HostRuntime) {
+    line::title(&rt, b"refusals and clears");
+    cases::answers(&rt);
+    line::title(&rt, b"plans");
+    cases::plans(&rt);
+    line::title(&rt, b"moments");
+    cases::moments(&rt);
+    line::title(&rt, b"waits");
+    cases::waits(&rt);
+    line::title(&rt, b"division rounded up");
+    cases::divisions(&rt);
 }

@@ -1,8 +1,9 @@
 -- What is read and written adds up: a count is kept modulo 2^64, and the remainder of a sum comes from the remainders of its parts.
 -- Assumes nothing.
 use Rattle.std.proofs.Common.{◌≡◌, ℕ, ◌+◌, ◌%◌, ◌^◌, ◌≤◌, List, length, take, drop, sym, ap, ◌∙◌, subst, add-zero, add_assoc, arith}
-use native.Mathlib.Nat.{mod-mod, mod-add-mod}
-use lib.Seq.{sets, sets-eq, take-append_seam}
+use Rattle.std.proofs.Math.Nat.{mod-mod, mod-add-mod}
+use Rattle.std.proofs.Math.Seq.{take-append_seam}
+use Rattle.std.proofs.lemmas.List.Edits.{sets, sets-eq}
 use Rattle.text_io.specs.Piece.{Counted, Written}
 
 -- a sum that wraps

@@ -1,5 +1,7 @@
-// Standard input read and standard output written, a piece at a time: the header, and what is said of a piece.
+// The input read and the output written, a piece at a time: the header, and what is said of a piece.
 // What goes through `read` and `write` is counted in `taken` and `sent`, modulo 2^64, so that the promises can speak of it.
+#![tactic(auto)]
+
 ghost use Rattle.std.specs.Prelude.{◌≡◌, ◌≤◌, true, length, take};
 ghost use Rattle.table_gcra.specs.Table.{table_of};
 ghost use Rattle.text_session.specs.Session.{Lent};
@@ -7,13 +9,12 @@ ghost use Rattle.text_stream.specs.Running.{Ready, state_of};
 ghost use Rattle.text_protocol.specs.Reply.{header};
 ghost use Rattle.text_io.specs.Piece.{Ample, Counted, Took, Written, Onwards};
 
-use libc::{STDERR_FILENO, STDIN_FILENO, STDOUT_FILENO};
-use std::num::wrapping_add_u64;
+use std::io::{Read, Write};
 use text_protocol::reply;
 use text_stream::Session;
 
 // What a read led to: so many bytes stand at the start of the piece, or the input has ended, or it cannot be read.
-#[derive(Drop)]
+#[derive(Clone, Copy)]
 pub enum Input {
     Got(usize),
     End,
@@ -21,60 +22,52 @@ pub enum Input {
 }
 
 // What a piece led to: the session after it, or its answers cannot be written.
-#[derive(Drop)]
+#[derive(Clone, Copy)]
 pub enum Answered {
     Next(Session),
     Lost,
 }
 
-// Reads a piece and counts its bytes, or says that standard input cannot be read.
-pub fn read(piece: &mut [u8], taken: &mut u64) -> Input
+// Reads a piece and counts its bytes.
+#[tactic(auto, unfolding(crate::specs::Piece::Took))]
+pub fn read<R: Read>(input: &mut R, piece: &mut [u8], taken: &mut u64) -> Input
     ensures { Took result piece.new taken.old taken.new }
 {
-    let got = libc::read(STDIN_FILENO, piece);
-    let n = io::count(got, piece);
-    *taken = wrapping_add_u64(*taken, n as u64);
+    let Ok(n) = input.read(piece) else {
+        return Input::Failed;
+    };
+    *taken = taken.wrapping_add(n as u64);
     if 0 < n {
         return Input::Got(n);
-    }
-    if got < 0 {
-        io::write_all(
-            STDERR_FILENO,
-            b"railcadence: standard input cannot be read\n",
-        );
-        return Input::Failed;
     }
     Input::End
 }
 
-// Writes the first bytes of the output and counts them, or says that standard output cannot be written.
-pub fn write(out: &[u8], count: usize, sent: &mut u64) -> bool
+// Writes the first bytes of the output and counts them, or says that they cannot be written.
+pub fn write<W: Write>(output: &mut W, out: &[u8], count: usize, sent: &mut u64) -> bool
     requires { count ≤ length out.now }
     ensures { result ≡ true → Counted sent.old count sent.new }
 {
     let bytes = &out[..count];
-    if io::write_all(STDOUT_FILENO, bytes) {
-        *sent = wrapping_add_u64(*sent, bytes.len() as u64);
-        return true;
+    if output.write_all(bytes).is_err() {
+        return false;
     }
-    io::write_all(
-        STDERR_FILENO,
-        b"railcadence: standard output cannot be written\n",
-    );
-    false
+    *sent = sent.wrapping_add(bytes.len() as u64);
+    true
 }
 
 // The header written.
-pub fn begin(out: &mut [u8], sent: &mut u64) -> bool
+pub fn begin<W: Write>(output: &mut W, out: &mut [u8], sent: &mut u64) -> bool
     requires { length header ≤ length out.old }
     ensures { result ≡ true → Written header out.new sent.old sent.new }
 {
     let end = reply::put_header(out);
-    write(out, end, sent)
+    write(output, out, end, sent)
 }
 
 // The first bytes of a piece answered: fed to the session, and what is said of them written.
-pub fn answer(
+pub fn answer<W: Write>(
+    output: &mut W,
     session: Session,
     piece: &[u8],
     n: usize,
@@ -107,7 +100,7 @@ pub fn answer(
         0,
     );
     let next = fed.session;
-    if write(out, fed.at, sent) {
+    if write(output, out, fed.at, sent) {
         return Answered::Next(next);
     }
     Answered::Lost

@@ -1,8 +1,6 @@
 -- The page of laws holds.
 -- Assumes nothing.
-use mathlib.Core.Path.{refl}
-use mathlib.Core.List.{[], ◌++◌}
-use native.Mathlib.Omega.{arith}
+use Rattle.std.proofs.Common.{[], ◌++◌, refl, arith}
 use Rattle.text_protocol.specs.Reply.{header}
 use Rattle.text_session.specs.Stream.{said}
 use Rattle.text_session.specs.Transcript.{transcript}

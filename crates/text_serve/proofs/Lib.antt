@@ -1,4 +1,3 @@
--- How far a run has come, and its buffers.
-pub mod Lengths
+-- How far a run has come, and what it comes to.
 pub mod Reached
 pub mod Laws

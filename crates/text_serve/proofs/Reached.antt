@@ -1,12 +1,7 @@
 -- How far a run has come: a piece more leads on, since what is said of two pieces is what is said of the first and then of the
 -- second; and what it comes to.
 -- Assumes nothing.
-use mathlib.Core.Path.{◌≡◌, refl, sym, ap, ◌∙◌}
-use mathlib.Core.List.{List, [], ◌++◌}
-use Prim.Native.Nat.{ℕ, ◌+◌, ◌-◌, ◌≤◌}
-use native.Mathlib.Nat.{add-zero}
-use native.Mathlib.Omega.{arith}
-use lib.ListN.{length, length-append}
+use Rattle.std.proofs.Common.{◌≡◌, ℕ, ◌+◌, ◌-◌, ◌≤◌, List, [], ◌++◌, length, refl, sym, ap, ◌∙◌, add-zero, arith, length-append}
 use Rattle.table_gcra.specs.Table.{Table}
 use Rattle.text_protocol.specs.Reply.{header}
 use Rattle.text_session.specs.Session.{Lent}

@@ -1,5 +1,7 @@
-// The text program's whole run: standard input read piece by piece, and the answers to each piece written before the next is read,
-// so that no answer is lost.
+// The text program's whole run: the input read piece by piece, and the answers to each piece written before the next is read, so
+// that no answer is lost.
+#![tactic(auto)]
+
 ghost use Rattle.std.specs.Prelude.{◌≡◌, ◌≤◌, length};
 ghost use Rattle.table_gcra.specs.Table.{table_of};
 ghost use Rattle.text_protocol.specs.Command.{most_line};
@@ -9,12 +11,13 @@ ghost use Rattle.text_stream.specs.Running.{Ready, ending_of};
 ghost use Rattle.text_io.specs.Piece.{Ample, Written};
 ghost use Rattle.text_serve.specs.Serving.{Finished, account_of, Answers, Serves};
 
+use std::io::{Read, Write};
 use text_io::{Answered, Input};
 use text_stream::Session;
 
 // How a run ended: at the input's end, or before it since it cannot be read or is too long, or with answers that cannot be
 // written.
-#[derive(Drop)]
+#[derive(Clone, Copy)]
 pub enum Run {
     Ended,
     Unended,
@@ -23,14 +26,20 @@ pub enum Run {
 }
 
 // The input's end: what is said there written.
-fn close(session: Session, line: &[u8], out: &mut [u8], sent: &mut u64) -> Run
+fn close<W: Write>(
+    output: &mut W,
+    session: Session,
+    line: &[u8],
+    out: &mut [u8],
+    sent: &mut u64,
+) -> Run
     requires ready { Ready session line.now }
-    requires most_reply_in_bounds { most_reply ≤ length out.old }
+    requires room { most_reply ≤ length out.old }
     ensures { Finished result
         (Written (ending_of session line.now) out.new sent.old sent.new) ⊥ ⊥ }
 {
     let end = text_stream::finish(session, line, out, 0);
-    if text_io::write(out, end, sent) {
+    if text_io::write(output, out, end, sent) {
         return Run::Ended;
     }
     Run::Unwritten
@@ -38,7 +47,9 @@ fn close(session: Session, line: &[u8], out: &mut [u8], sent: &mut u64) -> Run
 
 // The pieces one after the other. A proved loop has to end, and nothing says that the input does: so the turns are counted down
 // from a number that no run uses up.
-fn pieces(
+fn pieces<R: Read, W: Write>(
+    input: &mut R,
+    output: &mut W,
     piece: &mut [u8],
     line: &mut [u8],
     ids: &mut [u32],
@@ -49,7 +60,7 @@ fn pieces(
     taken: &mut u64,
     sent: &mut u64,
 ) -> Run
-    requires most_line_in_bounds { most_line ≤ length line.old }
+    requires line_enough { most_line ≤ length line.old }
     requires lent { Lent ids.old numbers.old tats.old }
     requires ample { Ample piece.old out.old }
     ensures { Answers result
@@ -64,17 +75,17 @@ fn pieces(
         if turns == 0 {
             break Run::TooLong;
         }
-        match text_io::read(piece, taken) {
+        match text_io::read(input, piece, taken) {
             Input::Got(n) => {
                 let told = text_io::answer(
-                    session, piece, n, line, ids, numbers, tats, newest, out, sent,
+                    output, session, piece, n, line, ids, numbers, tats, newest, out, sent,
                 );
                 let Answered::Next(next) = told else {
                     break Run::Unwritten;
                 };
                 session = next;
             }
-            Input::End => break close(session, line, out, sent),
+            Input::End => break close(output, session, line, out, sent),
             Input::Failed => break Run::Unended,
         }
         turns -= 1;
@@ -82,7 +93,9 @@ fn pieces(
 }
 
 // The header, and then the answers.
-pub fn serve(
+pub fn serve<R: Read, W: Write>(
+    input: &mut R,
+    output: &mut W,
     piece: &mut [u8],
     line: &mut [u8],
     ids: &mut [u32],
@@ -93,7 +106,7 @@ pub fn serve(
     taken: &mut u64,
     sent: &mut u64,
 ) -> Run
-    requires most_line_in_bounds { most_line ≤ length line.old }
+    requires line_enough { most_line ≤ length line.old }
     requires lent { Lent ids.old numbers.old tats.old }
     requires ample { Ample piece.old out.old }
     ensures { Serves result
@@ -102,8 +115,11 @@ pub fn serve(
         (account_of (table_of ids.new numbers.new tats.new newest.new)
         taken.new sent.new) }
 {
-    if text_io::begin(out, sent) {
-        return pieces(piece, line, ids, numbers, tats, newest, out, taken, sent);
+    let begun = text_io::begin(output, out, sent);
+    if begun {
+        return pieces(
+            input, output, piece, line, ids, numbers, tats, newest, out, taken, sent,
+        );
     }
     Run::Unwritten
 }
