@@ -1,4 +1,6 @@
 // An answer's numbers in the order in which a host receives them.
+#![tactic(auto)]
+
 ghost use Rattle.std.specs.Prelude.{◌≡◌};
 ghost use Rattle.c_answer.specs.Five.{five};
 

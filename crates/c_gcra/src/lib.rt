@@ -1,4 +1,6 @@
 // The GCRA engine's calls for C. Any values may be passed.
+#![tactic(auto)]
+
 ghost use Rattle.std.specs.Prelude.{◌≡◌};
 ghost use Rattle.plans.specs.Lent.{plans_in};
 ghost use Rattle.plans.specs.Plans.{plans_of};
@@ -24,7 +26,7 @@ pub extern "C" fn railcadence_gcra_acquire(
 )
     ensures out_after { out.new ≡ five (acquire (request_of (plans_of (plans_in plans.now) plan) moment subscriber cost)
         (table_of ids.old numbers.old tats.old newest.old)).answer }
-    ensures newest_after { table_of ids.new numbers.new tats.new newest.new
+    ensures table_after { table_of ids.new numbers.new tats.new newest.new
         ≡ (acquire (request_of (plans_of (plans_in plans.now) plan) moment subscriber cost)
         (table_of ids.old numbers.old tats.old newest.old)).after }
 {
@@ -67,7 +69,7 @@ pub extern "C" fn railcadence_gcra_clear(
 )
     ensures out_after { out.new ≡ five (clear
         (table_of ids.old numbers.old tats.old newest.old)).answer }
-    ensures newest_after { table_of ids.new numbers.new tats.new newest.new ≡ (clear
+    ensures table_after { table_of ids.new numbers.new tats.new newest.new ≡ (clear
         (table_of ids.old numbers.old tats.old newest.old)).after }
 {
     let cleared = table_gcra::clear(ids, numbers, tats, newest);

@@ -1,7 +1,7 @@
 -- The laws of the fields' export: each field has its place, and the five numbers of an answer are read as they were received.
 use Rattle.std.specs.Prelude.{◌≡◌, length, get_or}
 use Rattle.rate.specs.declared.answer.Numbers.{Numbers}
-use Rattle.http.specs.declared.Fields.{Fields}
+use Rattle.http_fields.specs.declared.Fields.{Fields}
 use Rattle.c_answer.specs.Five.{five}
 use Rattle.c_http.specs.Told.{numbers_in, told}
 

@@ -1,7 +1,7 @@
 -- The five numbers that a host hands back, and the order of those that it is told for an HTTP response.
 use Rattle.std.specs.Prelude.{ℕ, List, [], ◌∷◌, get_or}
 use Rattle.rate.specs.declared.answer.Numbers.{Numbers}
-use Rattle.http.specs.declared.Fields.{Fields}
+use Rattle.http_fields.specs.declared.Fields.{Fields}
 
 -- number, subscriber, left, reset and wait, as `five` puts them
 unfoldable pub numbers_in : List ℕ → Numbers

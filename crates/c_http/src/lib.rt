@@ -1,10 +1,12 @@
 // What an HTTP response says of an answer, for C. Any values may be passed.
+#![tactic(auto)]
+
 ghost use Rattle.std.specs.Prelude.{◌≡◌};
-ghost use Rattle.http.specs.Fields.{fields_of};
+ghost use Rattle.http_fields.specs.Fields.{fields_of};
 ghost use Rattle.c_answer.specs.Five.{plan_of};
 ghost use Rattle.c_http.specs.Told.{numbers_in, told};
 
-use http::Fields;
+use http_fields::Fields;
 use rate::answer::Numbers;
 use ticks::plan::Plan;
 use ticks::units::Millis;
@@ -45,5 +47,5 @@ pub extern "C" fn railcadence_http_fields(
         reset: answer[3],
         wait: answer[4],
     };
-    *out = told(http::header_fields(plan, Millis(moment), numbers));
+    *out = told(http_fields::header_fields(plan, Millis(moment), numbers));
 }

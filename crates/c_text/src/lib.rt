@@ -1,4 +1,6 @@
 // A whole tabbed text for C (document 01, 'The tabbed text'). Any values may be passed.
+#![tactic(auto)]
+
 ghost use Rattle.std.specs.Prelude.{◌≡◌};
 ghost use Rattle.table_gcra.specs.Table.{table_of};
 ghost use Rattle.text_transcript.specs.Whole.{transcribed, lent_of};

@@ -1,4 +1,6 @@
 // The token bucket engine's calls for C. Any values may be passed.
+#![tactic(auto)]
+
 ghost use Rattle.std.specs.Prelude.{◌≡◌};
 ghost use Rattle.plans.specs.Lent.{plans_in};
 ghost use Rattle.plans.specs.Plans.{plans_of};
@@ -25,7 +27,7 @@ pub extern "C" fn railcadence_token_bucket_acquire(
 )
     ensures out_after { out.new ≡ five (acquire (request_of (plans_of (plans_in plans.now) plan) moment subscriber cost)
         (table_of ids.old numbers.old levels.old lasts.old newest.old)).answer }
-    ensures newest_after { table_of ids.new numbers.new levels.new lasts.new newest.new
+    ensures table_after { table_of ids.new numbers.new levels.new lasts.new newest.new
         ≡ (acquire (request_of (plans_of (plans_in plans.now) plan) moment subscriber cost)
         (table_of ids.old numbers.old levels.old lasts.old newest.old)).after }
 {
@@ -72,7 +74,7 @@ pub extern "C" fn railcadence_token_bucket_clear(
 )
     ensures out_after { out.new ≡ five (clear
         (table_of ids.old numbers.old levels.old lasts.old newest.old)).answer }
-    ensures newest_after { table_of ids.new numbers.new levels.new lasts.new newest.new ≡ (clear
+    ensures table_after { table_of ids.new numbers.new levels.new lasts.new newest.new ≡ (clear
         (table_of ids.old numbers.old levels.old lasts.old newest.old)).after }
 {
     let cleared = table_token_bucket::clear(ids, numbers, levels, lasts, newest);
