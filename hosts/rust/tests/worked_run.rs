@@ -30,7 +30,7 @@ fn the_expected_answers_are_right() {
         ("owing", 18),
         ("changing", 14),
     ] {
-        let (run, answers) = (worked.list(name), worked.list(&format!("{name}Answers")));
+        let (run, answers) = (worked.list(name), worked.list(&format!("{name}_answers")));
         assert_eq!((run.len(), answers.len()), (calls, calls), "{name}");
         play(&worked.plans("plans"), &run, |place, _| {
             numbers(&answers[place])
