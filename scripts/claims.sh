@@ -2,7 +2,8 @@
 # docs/CLAIMS.md against the tree. Prints each line that is wrong, and fails if there is one.
 #   scripts/claims.sh [FILE]                  each name in backquotes is there, as what its column says and in the crate or file
 #                                             that is named right after it; and every must-fail edit and wrong archive is named
-#   scripts/claims.sh --verdicts LOG [FILE]   the verdict lines that it shows are those in LOG, which 'rt ci' or 'rt prove' printed
+#   scripts/claims.sh --verdicts LOG [FILE]   the verdict lines that it shows are those in LOG, which 'rt ci' printed; of a crate that is
+#                                             kept from an earlier run it prints none, and none is compared
 # FILE, by its path from the root of the repository, takes its place.
 set -eu
 cd "$(dirname "$0")/.."
@@ -16,7 +17,7 @@ log=
 if [ "${1-}" = --verdicts ]; then
     [ $# -ge 2 ] || fail "--verdicts takes the log of 'rt ci'"
     log=$2
-    [ -r "$log" ] || fail "there is no log '$log': 'rt ci' or 'rt prove' prints it"
+    [ -r "$log" ] || fail "there is no log '$log': 'rt ci' prints it"
     shift 2
 fi
 claims=${1-docs/CLAIMS.md}
@@ -82,13 +83,14 @@ things() {
         label=${edit##*/}
         echo "archive - - ${label%.edit}"
     done
-    sed -n 's/^\([a-z_]*\):.*/crate - - \1/p' crates.txt
+    sed -En 's/^([a-z_]+)( staticlib)?:.*/crate - - \1/p' crates.txt
     # the faults that the comparisons list with '--spoil list'
     grep -ho '"[a-z]*\(-[a-z]*\)*"' hosts/rust/*/src/spoil.rs hosts/rust/*/src/spoil/*.rs | sed 's/"\(.*\)"/fault - - \1/'
     # what its report calls the parts of the comparison of calls
     grep -ho '"[a-z]*"' hosts/rust/differential/src/*.rs | sed 's/"\(.*\)"/part - - \1/'
-    # files and folders by their whole path, or from below crates/ or hosts/c/
-    find . -name .git -prune -o -path ./target -prune -o -path ./build -prune -o -print | sed -n 's,^\./,,p' | awk '
+    # files and folders by their whole path, or from below crates/ or hosts/c/; not what rt and cargo make
+    find . -name .git -prune -o -name target -prune -o -path ./build -prune -o -print | sed -n 's,^\./,,p' | awk '
+        /^crates\/[^\/]*\/out(\/|$)/ { next }
         { print "path - -", $0 }
         sub(/^crates\//, "") || sub(/^hosts\/c\//, "") { print "path - -", $0 }'
 }
@@ -98,7 +100,7 @@ names() {
         # what names nothing of the tree: a word of the language and two of the verdict lines, the folders of a crate, how the names
         # of the interfaces begin, a promise, a function of C and a law of the toolchain, a number in a text
         BEGIN {
-            n = split("requires|axioms=|foreign=|specs|proofs|src|must-fail|c_|r ≡ divUp a d|memset|sets-eq|0", words, "|")
+            n = split("requires|axioms=|foreign=|specs|proofs|src|must-fail|c_|result ≡ div_up a d|memset|sets-eq|0", words, "|")
             for (i = 1; i <= n; i++) plain[words[i]]
         }
         function report(what) { print claims ":" FNR ": " what }
@@ -240,36 +242,44 @@ verdicts() {
     awk '
         function report(what) { print claims ":" FNR ": " what }
         function key(word) { sub(/=.*/, "", word); return word }
-        # the log: the last verdict before the line that says which crate it is
+        # the log: what is said of a crate stands below a line `== CRATE`, and of its tests below another
         logged {
-            if (/^logic=/) verdict = $0
-            if (/^rt: [a-z_]+ proved/ && verdict != "") { log_of[$2] = verdict; verdict = "" }
+            if (/^== /) crate = NF == 2 ? $2 : ""
+            if (/^logic=/ && crate != "") log_of[crate] = $0
+            if (/^rt: [a-z_]+ is kept: /) kept[$2]
             next
         }
-        # the claims: lines that are further in, `CRATE logic=proved ..`; ".." stands for what the first line shows, and the target
+        # the claims: lines that are further in, `CRATE logic=proved ..`; ".." stands for what the first line shows, and the target and
+        # processor of a static library
         /^    [a-z_]+ +logic=/ {
             name = $1
             shown[name]
-            if (!(name in log_of)) { report("the log has no verdict of " name ": take the line out, or prove the crate"); next }
-            n = split(log_of[name], words, " ")
-            split("", said)
-            for (i = 1; i <= n; i++) said[words[i]]
             split("", here)
             rest = 0
             for (i = 2; i <= NF && $i !~ /^\(/; i++) {
-                if ($i == "..") { rest = 1; continue }
-                here[key($i)]
-                if (!($i in said)) report(name " is shown with " $i ", and its verdict is: " log_of[name])
+                if ($i == "..") rest = 1
+                else here[key($i)] = $i
             }
+            if (!(name in log_of)) {
+                if (!(name in kept)) report("the log has no verdict of " name ": take the line out, or prove the crate")
+                if (!rest) for (k in here) if (k != "functions") first[here[k]]
+                next
+            }
+            n = split(log_of[name], words, " ")
+            split("", said)
             for (i = 1; i <= n; i++) {
+                said[words[i]]
                 if (!rest && words[i] !~ /^functions=/) first[words[i]]
-                if (key(words[i]) in here || rest && (words[i] in first || words[i] ~ /^target=/)) continue
+            }
+            for (k in here) if (!(here[k] in said)) report(name " is shown with " here[k] ", and its verdict is: " log_of[name])
+            for (i = 1; i <= n; i++) {
+                if (key(words[i]) in here || rest && (words[i] in first || words[i] ~ /^(target|cpu)=/)) continue
                 report(name " is shown without " words[i] ", which its verdict has: add it")
             }
         }
         END {
-            while ((getline line <"crates.txt") > 0) if (line ~ /^[a-z_]+:/) {
-                sub(/:.*/, "", line)
+            while ((getline line <"crates.txt") > 0) if (line ~ /^[a-z_]+( staticlib)?:/) {
+                sub(/[ :].*/, "", line)
                 if (!(line in shown)) print claims ": no line shows the verdict of " line ": " log_of[line]
             }
         }' claims="$claims" logged=1 "$log" logged=0 "$claims"

@@ -17,18 +17,19 @@ need_rust() {
     need_c
 }
 
-# what cargo and gcc build; rt ci removes target/, so it stands beside it
+# what cargo and gcc build; what rt builds stands in crates/NAME/out, which rt ci empties
 build=$root/build
 export CARGO_TARGET_DIR=$build/cargo
 
-# the proved archive that C can call, an object for each crate that exports to C, kept where rt ci does not remove it
+# the proved archive that C can call, an object for each crate that exports to C, kept where rt ci does not remove it. rt ci proves these
+# crates and builds no archive of them; rt lib does, and proves again what it finds no kept work of
 export RAILCADENCE_LIB=$build
 build_archive() {
     objects=$build/objects
     rm -rf "$objects"
     mkdir -p "$objects"
     for crate in c_gcra c_token_bucket c_http c_text; do
-        (cd "$root" && rt staticlib "$crate" && cd "$objects" && ar x "$root/target/staticlib/lib$crate.a") >"$build/archive.log" 2>&1 || {
+        (cd "$root/crates/$crate" && rt lib && cd "$objects" && ar x "$root/crates/$crate/out/lib$crate.a") >"$build/archive.log" 2>&1 || {
             tail -n 20 "$build/archive.log" >&2
             fail "the crate $crate could not be proved and built for the archive: the last lines of build/archive.log are above"
         }
@@ -37,14 +38,20 @@ build_archive() {
     ar rcsD "$build/librailcadence_c.a" "$objects"/*.o || fail "no archive can be made from build/objects"
 }
 
-# the proved text program, kept where rt ci does not remove it; what has not changed since it was proved is not proved again
+# the proved text program, kept where rt ci does not remove it; what has not changed since it was proved is not proved again. rt run
+# builds it and runs it, here on no input
 build_program() {
-    (cd "$root" && rt check railcadence) >"$build/program.log" 2>&1 || {
+    (cd "$root/crates/railcadence" && rt run </dev/null 2>&1 >/dev/null) >"$build/program.log" || {
         tail -n 20 "$build/program.log" >&2
         fail "the text program could not be proved and built: the last lines of build/program.log are above"
     }
+    keep_program
+}
+
+# keeps the program that the last rt run, or rt ci, has left
+keep_program() {
     # a program that is running cannot be written over, only replaced
-    cp "$root/target/bin/railcadence" "$build/railcadence.new"
+    cp "$root/crates/railcadence/out/railcadence" "$build/railcadence.new"
     mv "$build/railcadence.new" "$build/railcadence"
 }
 

@@ -12,8 +12,10 @@ root=$(cd "$(dirname "$0")/.." && pwd)
 . "$root/scripts/steps.sh"
 
 edits=$root/hosts/wrong-archives
-# 'rt' takes a file of Rattle outside target/ for one that no crate lists
-copies=$root/target/wrong-archives
+# what is built of each; the copies themselves stand outside the checkout, where rt ci would find files that no crate of it lists
+built=$build/wrong-archives
+copies=$(mktemp -d)
+trap 'rm -rf "$copies"' EXIT
 # the comparison, as often as the deliberate faults are tried
 calls="--seed 1 --calls 20000"
 
@@ -23,10 +25,14 @@ part_of() { sed -n 's/^# part: //p' "$edits/$1.edit"; }
 edit_copy() {
     copy=$copies/$1
     [ -n "$(part_of "$1")" ] || fail "hosts/wrong-archives/$1.edit has no line '# part: CRATE'"
-    rm -rf "$copy"
-    mkdir -p "$copy"
-    cp -R "$root/crates" "$root/crates.txt" "$copy"
+    mkdir "$copy"
+    cp "$root/crates.txt" "$copy"
     (
+        cd "$root"
+        for part in crates/*/src crates/*/specs crates/*/proofs; do
+            mkdir -p "$copy/${part%/*}"
+            cp -R "$part" "$copy/$part"
+        done
         cd "$copy"
         awk '
             function wrong(words) { print FILENAME ":" FNR ": " words >"/dev/stderr"; exit 1 }
@@ -44,47 +50,45 @@ edit_copy() {
     ) || fail "the edit $1 cannot be made: see above"
 }
 
-# proves the copy, and builds its part of the archive; crates that the edit leaves as they are need not be proved again
+# proves the copy, and builds its part of the archive; crates that the edit leaves as they are rt takes from another checkout on the
+# machine, where one has built them
 build_wrong() {
     edit_copy "$1"
     part=$(part_of "$1")
-    mkdir -p "$copy/target/rlib" "$copy/target/stamp" "$copy/objects"
-    for below in $(sed -n "s/^$part://p" "$root/crates.txt"); do
-        if [ -f "$root/target/stamp/$below" ]; then
-            cp -pR "$root/target/rlib/$below.rlib" "$copy/target/rlib"
-            cp -p "$root/target/stamp/$below" "$copy/target/stamp"
-        fi
-    done
-    (cd "$copy" && rt staticlib "$part" && cd objects && ar x "../target/staticlib/lib$part.a") >"$copy/log" 2>&1 || {
-        { grep ': error: ' "$copy/log" || tail -n 20 "$copy/log"; } | head -n 20 >&2
+    objects=$built/$1/objects
+    log=$built/$1/log
+    rm -rf "$built/$1"
+    mkdir -p "$objects"
+    (cd "$copy/crates/$part" && rt lib && cd "$objects" && ar x "$copy/crates/$part/out/lib$part.a") >"$log" 2>&1 || {
+        { grep -E ': error|^error|: not proved|: no proof' "$log" || tail -n 20 "$log"; } | head -n 20 >&2
         fail "the wrong archive $1 is not proved, so it shows nothing: move what is named above in hosts/wrong-archives/$1.edit too"
     }
-    rm -rf "$copy/target" "$copy/crates"
+    rm -rf "$copy"
 }
 
 # the comparison must end with 1, and say where the two differ
 compare_wrong() {
-    copy=$copies/$1
+    made=$built/$1
     part=$(part_of "$1")
-    [ -f "$copy/objects/$part.o" ] || fail "the wrong archive $1 is not built: --build builds it"
-    cp "$build"/objects/*.o "$copy"
-    cp "$copy/objects/$part.o" "$copy"
-    rm -f "$copy/librailcadence_c.a"
-    ar rcsD "$copy/librailcadence_c.a" "$copy"/*.o || fail "no archive can be made from the objects of $1"
+    [ -f "$made/objects/$part.o" ] || fail "the wrong archive $1 is not built: --build builds it"
+    cp "$build"/objects/*.o "$made"
+    cp "$made/objects/$part.o" "$made"
+    rm -f "$made/librailcadence_c.a"
+    ar rcsD "$made/librailcadence_c.a" "$made"/*.o || fail "no archive can be made from the objects of $1"
     (
-        RAILCADENCE_LIB=$copy
+        RAILCADENCE_LIB=$made
         CARGO_TARGET_DIR=$build/wrong_cargo
         build_rust differential
     )
     status=0
-    "$build/wrong_cargo/release/differential" $calls >"$copy/out" 2>"$copy/difference" || status=$?
+    "$build/wrong_cargo/release/differential" $calls >"$made/out" 2>"$made/difference" || status=$?
     [ "$status" = 1 ] || {
-        cat "$copy/difference" >&2
+        cat "$made/difference" >&2
         fail "the comparison ends with status $status for the wrong archive $1, and must end with 1, a difference"
     }
-    difference=$(sed -n '/ differ$/p; / differ afterwards$/p' "$copy/difference" | head -n 1)
+    difference=$(sed -n '/ differ$/p; / differ afterwards$/p' "$made/difference" | head -n 1)
     [ -n "$difference" ] || {
-        cat "$copy/difference" >&2
+        cat "$made/difference" >&2
         fail "the comparison reports something else than a difference of the wrong archive $1: see above"
     }
     step "    noticed: $1 ($(sed -n '1s/^# //p' "$edits/$1.edit")): $difference"
@@ -103,8 +107,6 @@ esac
 mkdir -p "$build"
 case $parts in
 apply)
-    copies=$(mktemp -d)
-    trap 'rm -rf "$copies"' EXIT
     for label in "$@"; do edit_copy "$label"; done
     ;;
 build*)
