@@ -2,8 +2,7 @@
 # docs/CLAIMS.md against the tree. Prints each line that is wrong, and fails if there is one.
 #   scripts/claims.sh [FILE]                  each name in backquotes is there, as what its column says and in the crate or file
 #                                             that is named right after it; and every must-fail edit and wrong archive is named
-#   scripts/claims.sh --verdicts LOG [FILE]   the verdict lines that it shows are those in LOG, which 'rt ci' printed; of a crate that is
-#                                             kept from an earlier run it prints none, and none is compared
+#   scripts/claims.sh --verdicts LOG [FILE]   the verdict lines that it shows are those in LOG, which has those of all crates
 # FILE, by its path from the root of the repository, takes its place.
 set -eu
 cd "$(dirname "$0")/.."
@@ -15,9 +14,9 @@ found=$(mktemp)
 trap 'rm -f "$found"' EXIT
 log=
 if [ "${1-}" = --verdicts ]; then
-    [ $# -ge 2 ] || fail "--verdicts takes the log of 'rt ci'"
+    [ $# -ge 2 ] || fail "--verdicts takes a log with the verdicts of all crates"
     log=$2
-    [ -r "$log" ] || fail "there is no log '$log': 'rt ci' prints it"
+    [ -r "$log" ] || fail "there is no log '$log'"
     shift 2
 fi
 claims=${1-docs/CLAIMS.md}
@@ -246,7 +245,6 @@ verdicts() {
         logged {
             if (/^== /) crate = NF == 2 ? $2 : ""
             if (/^logic=/ && crate != "") log_of[crate] = $0
-            if (/^rt: [a-z_]+ is kept: /) kept[$2]
             next
         }
         # the claims: lines that are further in, `CRATE logic=proved ..`; ".." stands for what the first line shows, and the target and
@@ -261,7 +259,7 @@ verdicts() {
                 else here[key($i)] = $i
             }
             if (!(name in log_of)) {
-                if (!(name in kept)) report("the log has no verdict of " name ": take the line out, or prove the crate")
+                report("the log has no verdict of " name ": take the line out, or prove the crate")
                 if (!rest) for (k in here) if (k != "functions") first[here[k]]
                 next
             }

@@ -93,12 +93,3 @@ sed '/^== rule_gcra$/,/^rt: /d' "$folder/log" >"$folder/short"
 log="--verdicts $folder/short"
 once '    rule_gcra  ' '    rule_gcra '
 in_line 'the log has no verdict of rule_gcra'
-
-# .. and one of a run to which some crates were known, the first among them
-awk '/^== (ticks|rule_gcra)$/ { print "rt: " $2 " is kept: an earlier run on this machine proved it"; gone = 1; next }
-    /^== / { gone = 0 }
-    !gone { print }' "$folder/log" >"$folder/kept"
-log="--verdicts $folder/kept"
-scripts/claims.sh $log || fail "claims.sh reports the lines above, and the log lacks only the verdicts of crates that are kept"
-once 'functions=16' 'functions=10'
-in_line 'text_tsv is shown with functions=10'
