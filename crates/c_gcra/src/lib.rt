@@ -1,4 +1,5 @@
-// The GCRA engine's calls for C. Any values may be passed.
+// The GCRA engine's calls for C. Any values may be passed. The names, and the columns one by one, are the C interface's: each engine has
+// exports of its own.
 #![tactic(auto)]
 
 ghost use Rattle.std.specs.Prelude.{◌≡◌};
@@ -8,6 +9,11 @@ ghost use Rattle.table.specs.Request.{query_of, request_of};
 ghost use Rattle.table_gcra.specs.Table.{table_of, acquire, peek, clear};
 ghost use Rattle.c_answer.specs.Five.{five};
 
+use plans::Setting;
+use rate::answer::Numbers;
+use table::request::{Query, Request};
+use table_gcra::Table;
+use table_gcra::lent::Columns;
 use ticks::units::Millis;
 
 // ask
@@ -30,11 +36,22 @@ pub extern "C" fn railcadence_gcra_acquire(
         ≡ (acquire (request_of (plans_of (plans_in plans.now) plan) moment subscriber cost)
         (table_of ids.old numbers.old tats.old newest.old)).after }
 {
-    let at = Millis(moment);
-    let told = table_gcra::acquire(
-        plans, ids, numbers, tats, newest, at, subscriber, plan, cost,
-    );
-    *out = c_answer::five(told.to_numbers());
+    let query = Query {
+        setting: Setting {
+            plans,
+            number: plan,
+        },
+        moment: Millis(moment),
+        subscriber,
+    };
+    let mut table = Table {
+        ids,
+        numbers,
+        tats,
+        newest,
+    };
+    let told = table.acquire(&Request { query, cost });
+    *out = c_answer::five(Numbers::from(told));
 }
 
 // look
@@ -53,9 +70,22 @@ pub extern "C" fn railcadence_gcra_peek(
     ensures { out.new ≡ five (peek (query_of (plans_of (plans_in plans.now) plan) moment subscriber)
         (table_of ids.now numbers.now tats.now newest.now)).answer }
 {
-    let at = Millis(moment);
-    let told = table_gcra::peek(plans, ids, numbers, tats, newest, at, subscriber, plan);
-    *out = c_answer::five(told.to_numbers());
+    let query = Query {
+        setting: Setting {
+            plans,
+            number: plan,
+        },
+        moment: Millis(moment),
+        subscriber,
+    };
+    let lent = Columns {
+        ids,
+        numbers,
+        tats,
+        newest,
+    };
+    let told = lent.peek(&query);
+    *out = c_answer::five(Numbers::from(told));
 }
 
 // clear
@@ -72,6 +102,12 @@ pub extern "C" fn railcadence_gcra_clear(
     ensures table_after { table_of ids.new numbers.new tats.new newest.new ≡ (clear
         (table_of ids.old numbers.old tats.old newest.old)).after }
 {
-    let cleared = table_gcra::clear(ids, numbers, tats, newest);
-    *out = c_answer::five(cleared.to_numbers());
+    let mut table = Table {
+        ids,
+        numbers,
+        tats,
+        newest,
+    };
+    let cleared = table.clear();
+    *out = c_answer::five(Numbers::from(cleared));
 }

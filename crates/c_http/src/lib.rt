@@ -11,7 +11,7 @@ use rate::answer::Numbers;
 use ticks::plan::Plan;
 use ticks::units::Millis;
 
-// The fields in the order in which a host receives them.
+// The fields in the order in which a host receives them: it is the C interface's, which `http_fields` does not know.
 fn told(fields: Fields) -> [u64; 5]
     ensures { result ≡ told fields }
 {
@@ -40,6 +40,7 @@ pub extern "C" fn railcadence_http_fields(
         period,
         burst,
     };
+    // read in the order in which the C interface hands them out, as `c_answer` puts them
     let numbers = Numbers {
         number: answer[0],
         subscriber: answer[1],

@@ -6,16 +6,17 @@ ghost use Rattle.table_gcra.specs.Table.{table_of};
 ghost use Rattle.text_transcript.specs.Whole.{transcribed, lent_of};
 ghost use Rattle.c_text.specs.Text.{two};
 
-use text_transcript::Transcribed;
+use text_transcript::TooShort;
 
-// The result and how many bytes were written.
-fn two(transcribed: Transcribed) -> [u64; 2]
+// The result and how many bytes were written: the C interface's numbers, which `text_transcript` does not know.
+#[tactic(auto, unfolding(crate::specs::Text::two))]
+fn two(transcribed: Result<usize, TooShort>) -> [u64; 2]
     ensures { result ≡ two transcribed }
 {
     match transcribed {
-        Transcribed::Written(bytes) => [0, bytes as u64],
-        Transcribed::ShortTable => [1, 0],
-        Transcribed::ShortOutput => [2, 0],
+        Ok(bytes) => [0, bytes as u64],
+        Err(TooShort::Columns) => [1, 0],
+        Err(TooShort::Output) => [2, 0],
     }
 }
 

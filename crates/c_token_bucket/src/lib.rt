@@ -1,4 +1,5 @@
-// The token bucket engine's calls for C. Any values may be passed.
+// The token bucket engine's calls for C. Any values may be passed. The names, and the columns one by one, are the C interface's: each engine
+// has exports of its own.
 #![tactic(auto)]
 
 ghost use Rattle.std.specs.Prelude.{◌≡◌};
@@ -8,6 +9,11 @@ ghost use Rattle.table.specs.Request.{query_of, request_of};
 ghost use Rattle.table_token_bucket.specs.Table.{table_of, acquire, peek, clear};
 ghost use Rattle.c_answer.specs.Five.{five};
 
+use plans::Setting;
+use rate::answer::Numbers;
+use table::request::{Query, Request};
+use table_token_bucket::Table;
+use table_token_bucket::lent::Columns;
 use ticks::units::Millis;
 
 // ask
@@ -31,11 +37,23 @@ pub extern "C" fn railcadence_token_bucket_acquire(
         ≡ (acquire (request_of (plans_of (plans_in plans.now) plan) moment subscriber cost)
         (table_of ids.old numbers.old levels.old lasts.old newest.old)).after }
 {
-    let at = Millis(moment);
-    let told = table_token_bucket::acquire(
-        plans, ids, numbers, levels, lasts, newest, at, subscriber, plan, cost,
-    );
-    *out = c_answer::five(told.to_numbers());
+    let query = Query {
+        setting: Setting {
+            plans,
+            number: plan,
+        },
+        moment: Millis(moment),
+        subscriber,
+    };
+    let mut table = Table {
+        ids,
+        numbers,
+        levels,
+        lasts,
+        newest,
+    };
+    let told = table.acquire(&Request { query, cost });
+    *out = c_answer::five(Numbers::from(told));
 }
 
 // look
@@ -55,11 +73,23 @@ pub extern "C" fn railcadence_token_bucket_peek(
     ensures { out.new ≡ five (peek (query_of (plans_of (plans_in plans.now) plan) moment subscriber)
         (table_of ids.now numbers.now levels.now lasts.now newest.now)).answer }
 {
-    let at = Millis(moment);
-    let told = table_token_bucket::peek(
-        plans, ids, numbers, levels, lasts, newest, at, subscriber, plan,
-    );
-    *out = c_answer::five(told.to_numbers());
+    let query = Query {
+        setting: Setting {
+            plans,
+            number: plan,
+        },
+        moment: Millis(moment),
+        subscriber,
+    };
+    let lent = Columns {
+        ids,
+        numbers,
+        levels,
+        lasts,
+        newest,
+    };
+    let told = lent.peek(&query);
+    *out = c_answer::five(Numbers::from(told));
 }
 
 // clear
@@ -77,6 +107,13 @@ pub extern "C" fn railcadence_token_bucket_clear(
     ensures table_after { table_of ids.new numbers.new levels.new lasts.new newest.new ≡ (clear
         (table_of ids.old numbers.old levels.old lasts.old newest.old)).after }
 {
-    let cleared = table_token_bucket::clear(ids, numbers, levels, lasts, newest);
-    *out = c_answer::five(cleared.to_numbers());
+    let mut table = Table {
+        ids,
+        numbers,
+        levels,
+        lasts,
+        newest,
+    };
+    let cleared = table.clear();
+    *out = c_answer::five(Numbers::from(cleared));
 }

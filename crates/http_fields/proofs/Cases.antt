@@ -7,7 +7,6 @@ use lib.Dec.{eqb}
 use Rattle.rate.specs.declared.answer.Numbers.{Numbers}
 use Rattle.ticks.specs.declared.plan.Plan.{Plan}
 use Rattle.ticks.specs.Grains.{plan_ok}
-use Rattle.http_fields.specs.declared.Fields.{Fields}
 use Rattle.http_fields.specs.Fields.{seconds, silent, planned, reported, fields_of}
 
 module _ (p : Plan) (at : ℕ) (a : Numbers) where
@@ -31,10 +30,3 @@ module _ (p : Plan) (at : ℕ) (a : Numbers) where
   pub refused : plan_ok p ≡ true → eqb a.number 0 ≡ false → eqb a.number 8 ≡ false → fields_of p at a ≡ planned p
   unfolding fields_of
   refused e z n = rw (e, z, n)
-
--- fields of which the window and the reset were reckoned
-pub reckoned :
-    (quota left wait : ℕ) {window reset w r : ℕ} → window ≡ w → reset ≡ r →
-    ◌≡◌ {A = Fields} (record { quota = quota; window = window; remaining = left; reset = reset; retry_after = wait })
-    (record { quota = quota; window = w; remaining = left; reset = r; retry_after = wait })
-reckoned quota left wait ew er = rw (ew, er)

@@ -16,8 +16,8 @@ use Rattle.rate.proofs.Answers.{answered_left, reported_left}
 use Rattle.rate.proofs.Cases.{report_sound}
 use Rattle.rate.proofs.Laws.{record_laws}
 use Rattle.rate.proofs.Left.{remaining_most}
-use Rattle.table.specs.declared.search.Place.{Place}
-use Rattle.table.specs.declared.search.Place.TheVariants.{Nowhere, At}
+use Rattle.std.specs.Prelude.{Option}
+use Rattle.std.specs.Prelude.{Some, None}
 use Rattle.table.specs.Request.{Query, Request}
 use Rattle.table.specs.Rule.{rule_of}
 use Rattle.table.specs.Slots.{Columns, seek, carries, vacant}
@@ -95,10 +95,10 @@ module _ {C P R : Type 0} {A : Account P R} (L : Balanced A) (K : Columns C R) (
 
   -- the lowest free slot
   in_place :
-      Asked (gate (rule_of A) K q c) → Unknown K q c → vacant (rule_of A) K q.setting q.moment c i ≡ true → (p : Place) →
+      Asked (gate (rule_of A) K q c) → Unknown K q c → vacant (rule_of A) K q.setting q.moment c i ≡ true → (p : Option ℕ) →
       Sought (vacant (rule_of A) K q.setting q.moment c) (K.slots c) p → LeftNow A K q c (peek (rule_of A) K q c).answer.left
-  in_place a u e Nowhere full = absurd (false≢true (sym (full i within) ∙ e))
-  in_place a u e (At j) v = peek_new_left L K q c a j u v
+  in_place a u e None full = absurd (false≢true (sym (full i within) ∙ e))
+  in_place a u e (Some j) v = peek_new_left L K q c a j u v
 
   vacant_left :
       vacant (rule_of A) K q.setting q.moment c i ≡ true → PeekGround A K q c 0 → LeftNow A K q c (peek (rule_of A) K q c).answer.left

@@ -9,8 +9,8 @@ use Rattle.rate.specs.declared.answer.Numbers.{Numbers}
 use Rattle.rate.specs.Answer.{answered}
 use Rattle.rate.specs.Decision.{Verdict, bare}
 use Rattle.rate.proofs.Answers.{answered_number, bare_number}
-use Rattle.table.specs.declared.search.Place.{Place}
-use Rattle.table.specs.declared.search.Place.TheVariants.{Nowhere, At}
+use Rattle.std.specs.Prelude.{Option}
+use Rattle.std.specs.Prelude.{Some, None}
 use Rattle.table.specs.Request.{Query}
 use Rattle.table.specs.Rule.{Rule}
 use Rattle.table.specs.Slots.{Columns, seek, carries}
@@ -40,9 +40,9 @@ module _ {C P R : Type 0} (U : Rule P R) (K : Columns C R) (q : Query P) (c : C)
 
   -- there is always a cause
   in_place :
-      Asked (gate U K q c) → (p : Place) → Sought (carries (K.ids c) q.subscriber) (K.slots c) p → (n : ℕ) × PeekCause U K q c n
-  in_place a Nowhere u = (_, on_fresh a u refl)
-  in_place a (At i) o = (_, on_own a i o refl)
+      Asked (gate U K q c) → (p : Option ℕ) → Sought (carries (K.ids c) q.subscriber) (K.slots c) p → (n : ℕ) × PeekCause U K q c n
+  in_place a None u = (_, on_fresh a u refl)
+  in_place a (Some i) o = (_, on_own a i o refl)
 
   a_cause : (n : ℕ) × PeekCause U K q c n
   a_cause = by (asked_or_stopped (gate U K q c))

@@ -5,7 +5,8 @@ use mathlib.Core.List.{List}
 use Prim.Native.Nat.{ℕ}
 use Rattle.rate.specs.Engine.{Engine}
 use Rattle.rate.specs.Lawful.{Lawful}
-use Rattle.plans.specs.Plans.{Planned, planned}
+use Rattle.plans.specs.declared.planned.Planned.{Planned}
+use Rattle.plans.specs.Plans.{planned}
 use Rattle.rule_gcra.proofs.Laws.{gcra_lawful}
 use Rattle.rule_token_bucket.proofs.Laws.{token_bucket_lawful}
 use Rattle.table.specs.Rule.{rule_of}

@@ -13,7 +13,7 @@ use Rattle.ticks.specs.Grains.{price, capacity, last_moment, WithinLimits}
 use Rattle.ticks.proofs.Limits.{within_limits, clock_within}
 use Rattle.rate.proofs.Left.{fits_test}
 use Rattle.plans.specs.Plans.{Plans, plans_of, plan_at, plans_ok}
-use Rattle.plans.proofs.Planned.{ok_at, ok_known}
+use Rattle.plans.proofs.Accounts.{ok_at, ok_known}
 use Rattle.table.specs.Request.{Request, request_of}
 use Rattle.table.specs.Checks.{slots_ok}
 use Rattle.table.specs.Passed.{Asked, Payable}

@@ -11,7 +11,8 @@ use Rattle.ticks.proofs.Products.{price_larger}
 use Rattle.rate.specs.declared.answer.Numbers.{Numbers}
 use Rattle.rate.specs.Engine.{Engine}
 use Rattle.rate.specs.Lawful.{Lawful}
-use Rattle.plans.specs.Plans.{Planned, plan_at, planned}
+use Rattle.plans.specs.declared.planned.Planned.{Planned}
+use Rattle.plans.specs.Plans.{plan_at, planned}
 use Rattle.rule_gcra.proofs.Laws.{gcra_lawful}
 use Rattle.rule_token_bucket.proofs.Laws.{token_bucket_lawful}
 use Rattle.table.specs.Rule.{rule_of}

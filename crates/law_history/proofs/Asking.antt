@@ -14,8 +14,9 @@ use Rattle.rate.specs.Decision.{admissible, bare, admitted, throttled}
 use Rattle.rate.specs.Engine.{Engine}
 use Rattle.rate.specs.Lawful.{Lawful}
 use Rattle.rate.proofs.Fresh.{burst_admissible, fresh_admits}
-use Rattle.plans.specs.Plans.{Plans, Planned, planned_of, known, asked, current, fault_of, planned}
-use Rattle.plans.proofs.Planned.{planned_balanced, ok_known}
+use Rattle.plans.specs.declared.planned.Planned.{Planned}
+use Rattle.plans.specs.Plans.{Plans, planned_of, known, asked, current, fault_of, planned}
+use Rattle.plans.proofs.Accounts.{planned_balanced, ok_known}
 use Rattle.table.specs.Request.{Request}
 use Rattle.table.specs.Checks.{Toll, request_check}
 use Rattle.table.specs.Rule.{Rule, rule_of}

@@ -1,7 +1,7 @@
 -- The laws of the calls (law_calls, proofs/Laws) hold of both engines under any plans lent.
 -- Assumes nothing.
 use Rattle.plans.specs.Plans.{planned}
-use Rattle.plans.proofs.Planned.{planned_balanced}
+use Rattle.plans.proofs.Accounts.{planned_balanced}
 use Rattle.rule_gcra.specs.Gcra.{gcra}
 use Rattle.rule_gcra.proofs.Laws.{gcra_lawful}
 use Rattle.rule_token_bucket.specs.TokenBucket.{token_bucket}

@@ -12,8 +12,9 @@ use borrow.Author.Tests.{eq-eqb, eqb-true, eqb-false, ne_eqb, leb-true, le-leb, 
 use Rattle.ticks.proofs.Tests.{both}
 use Rattle.rate.specs.Engine.{Engine}
 use Rattle.rate.specs.Lawful.{Lawful}
-use Rattle.plans.specs.Plans.{Plans, Planned, planned, fault_of}
-use Rattle.plans.proofs.Planned.{planned_balanced, owing_own, is_possible, fault_drained, owes_own}
+use Rattle.plans.specs.declared.planned.Planned.{Planned}
+use Rattle.plans.specs.Plans.{Plans, planned, fault_of}
+use Rattle.plans.proofs.Accounts.{planned_balanced, owing_own, is_possible, fault_drained, owes_own}
 use Rattle.table.specs.Request.{Query}
 use Rattle.table.specs.Rule.{rule_of}
 use Rattle.table.specs.Slots.{Columns}

@@ -16,7 +16,8 @@ use Rattle.ticks.specs.declared.plan.Plan.{Plan}
 use Rattle.ticks.specs.Grains.{ticks_in, price}
 use Rattle.rate.specs.Engine.{Engine}
 use Rattle.rate.specs.Lawful.{Lawful}
-use Rattle.plans.specs.Plans.{Planned, planned_of, known, plan_at}
+use Rattle.plans.specs.declared.planned.Planned.{Planned}
+use Rattle.plans.specs.Plans.{planned_of, known, plan_at}
 use Rattle.table.specs.Checks.{slots_ok}
 use Rattle.table.specs.Slots.{Columns}
 use Rattle.table.specs.Stored.{Stored}

@@ -16,8 +16,9 @@ use Rattle.rate.specs.Account.{guard}
 use Rattle.rate.specs.Lawful.{Lawful}
 use Rattle.rate.proofs.Cases.{report_sound, report_faulty, guard_0, guard_not_0}
 use Rattle.rate.proofs.Fresh.{nothing_owed}
-use Rattle.plans.specs.Plans.{Plans, Planned, asked, planned}
-use Rattle.plans.proofs.Planned.{planned_balanced}
+use Rattle.plans.specs.declared.planned.Planned.{Planned}
+use Rattle.plans.specs.Plans.{Plans, asked, planned}
+use Rattle.plans.proofs.Accounts.{planned_balanced}
 use Rattle.table.specs.Request.{Query}
 use Rattle.table.specs.Checks.{Gate, query_check}
 use Rattle.table.specs.Rule.{Rule, rule_of}

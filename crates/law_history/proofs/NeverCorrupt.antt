@@ -19,7 +19,8 @@ use Rattle.rate.specs.Lawful.{Lawful}
 use Rattle.rate.proofs.Answers.{answered_number, bare_number, reported_number, admitted_number}
 use Rattle.rate.proofs.ClockEnd.{by_clock_end}
 use Rattle.rate.proofs.Cases.{guard_0, guard_not_0}
-use Rattle.plans.specs.Plans.{Plans, Planned, plans_of, asked, planned}
+use Rattle.plans.specs.declared.planned.Planned.{Planned}
+use Rattle.plans.specs.Plans.{Plans, plans_of, asked, planned}
 use Rattle.rule_gcra.proofs.Laws.{gcra_lawful}
 use Rattle.rule_token_bucket.proofs.Laws.{token_bucket_lawful}
 use Rattle.table.specs.Request.{Query, Request, query_of, request_of}

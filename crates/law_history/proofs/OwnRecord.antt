@@ -10,8 +10,9 @@ use lib.Dec.{eqb}
 use borrow.Author.Tests.{eqb-true, eqb-false}
 use Rattle.rate.specs.Engine.{Engine}
 use Rattle.rate.specs.Lawful.{Lawful}
-use Rattle.plans.specs.Plans.{Plans, Planned, planned, owing, possible, fault_of}
-use Rattle.plans.proofs.Planned.{owing_own, is_possible, fault_same, fault_drained, fault_12, owes_own}
+use Rattle.plans.specs.declared.planned.Planned.{Planned}
+use Rattle.plans.specs.Plans.{Plans, planned, owing, possible, fault_of}
+use Rattle.plans.proofs.Accounts.{owing_own, is_possible, fault_same, fault_drained, fault_12, owes_own}
 use Rattle.table.specs.Request.{Query}
 use Rattle.table.specs.Slots.{Columns}
 use Rattle.table.specs.Places.{Own, Unknown}

@@ -6,7 +6,8 @@ use Prim.Native.Nat.{ℕ}
 use Rattle.ticks.specs.declared.plan.Plan.{Plan}
 use Rattle.rate.specs.declared.answer.Numbers.{Numbers}
 use Rattle.rate.specs.Engine.{Engine}
-use Rattle.plans.specs.Plans.{Plans, Planned, plans_ok, asked, planned}
+use Rattle.plans.specs.declared.planned.Planned.{Planned}
+use Rattle.plans.specs.Plans.{Plans, plans_ok, asked, planned}
 use Rattle.table.specs.Request.{Query, Request}
 use Rattle.table.specs.Checks.{Gate, gate_of, toll_of}
 use Rattle.table.specs.Rule.{rule_of}

@@ -9,7 +9,8 @@ use Rattle.ticks.specs.declared.plan.Plan.{Plan}
 use Rattle.rate.specs.declared.answer.Numbers.{Numbers}
 use Rattle.rate.specs.Engine.{Engine}
 use Rattle.rate.specs.Lawful.{Lawful}
-use Rattle.plans.specs.Plans.{Planned, plans_of, planned}
+use Rattle.plans.specs.declared.planned.Planned.{Planned}
+use Rattle.plans.specs.Plans.{plans_of, planned}
 use Rattle.table.specs.Request.{query_of, request_of}
 use Rattle.table.specs.Checks.{slots_ok}
 use Rattle.table.specs.Rule.{rule_of}

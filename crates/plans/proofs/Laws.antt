@@ -18,7 +18,7 @@ use Rattle.rate.proofs.Cases as cases
 use Rattle.plans.specs.Plans.{Plans, plans_of, Planned, planned_of, most_plans, known, plan_at, all_ok, count_ok, lent_ok, plans_ok, asked, its, possible, fault_of, current, planned}
 use Rattle.plans.specs.Laws.{ListLaws, SliceLaws, RecordLaws, OnePlan, Laws, EngineLaws}
 use Rattle.plans.proofs.Lent.{lent_count, lent_none, lent_at, is_lent, is_unlent}
-use Rattle.plans.proofs.Planned.{fault_7, fault_12, fault_same, fault_drained, is_possible, is_unknown, owing_own, current_same, current_other, planned_balanced}
+use Rattle.plans.proofs.Accounts.{fault_7, fault_12, fault_same, fault_drained, is_possible, is_unknown, owing_own, current_same, current_other, planned_balanced}
 
 -- which lists are good
 all_good : (ps : List Plan) → ((k : ℕ) → k < length ps → plan_ok (plan_at ps k) ≡ true) → all_ok ps ≡ true

@@ -1,6 +1,6 @@
 -- The laws of this crate, lowest first. What stands above the crate cites these and no definition's text.
 pub mod Lent
-pub mod Planned
+pub mod Accounts
 pub mod Standing
 pub mod Judging
 pub mod Bounds

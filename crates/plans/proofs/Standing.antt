@@ -16,7 +16,7 @@ use Rattle.rate.proofs.ClockEnd.{throttled_not_0}
 use Rattle.rate.proofs.Cases.{judge_faulty, judge_admitted, judge_throttled, report_faulty, report_sound, settled_spent, settled_kept}
 use Rattle.plans.specs.Plans.{Plans, Planned, planned_of, known, plan_at, plans_ok, asked, its, possible, owing, fault_of, current, planned}
 use Rattle.plans.specs.Standing.{refused, judged, standing, report_on, settled_on, under}
-use Rattle.plans.proofs.Planned.{ok_known, fault_7, fault_12, fault_drained, fault_same, is_possible, is_unknown, is_unsound, current_same, current_other}
+use Rattle.plans.proofs.Accounts.{ok_known, fault_7, fault_12, fault_drained, fault_same, is_possible, is_unknown, is_unsound, current_same, current_other}
 
 -- a judgement of which it is known what it is
 settles : {R : Type 0} {j : Judged R} (k : Judged R) → j ≡ k → settled j ≡ settled k

@@ -5,6 +5,7 @@ use Rattle.ticks.specs.declared.plan.Plan.{Plan}
 use Rattle.ticks.specs.Grains.{capacity, plan_ok, on_clock, WithinLimits}
 use Rattle.rate.specs.Engine.{Engine}
 use Rattle.rate.specs.Account.{Account}
+pub use Rattle.plans.specs.declared.planned.Planned.{Planned}
 
 -- the most plans that may be lent; the least is 1
 abbrev pub most_plans : ℕ
@@ -18,11 +19,7 @@ pub record Plans : Type 0 where
 abbrev pub plans_of : List Plan → ℕ → Plans
 plans_of plans number = record { plans = plans; number = number }
 
--- what is stored: the number of the plan, and the engine's record
-pub record Planned (R : Type 0) : Type 0 where
-  pub number : ℕ
-  pub held : R
-
+-- what is stored (`Planned`, of the code): the number of the plan, and the engine's record
 abbrev pub planned_of : {R : Type 0} → ℕ → R → Planned R
 planned_of number held = record { number = number; held = held }
 

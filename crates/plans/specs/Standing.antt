@@ -1,5 +1,7 @@
 -- What stands in the way of judging a record under the plans lent, or else the engine's record that is judged by the plan asked for.
-use Rattle.std.specs.Prelude.{ℕ, cond, eqb}
+use Rattle.std.specs.Prelude.{ℕ, cond, eqb, Result, Ok, Err}
+use Rattle.rate.specs.declared.answer.Reason.{Reason}
+use Rattle.rate.specs.Answer.{reason_number}
 use Rattle.rate.specs.Decision.{Verdict, bare}
 use Rattle.rate.specs.Engine.{Engine}
 use Rattle.rate.specs.Account.{alone, judge, report, Settled, kept, spent, settled}
@@ -8,6 +10,11 @@ use Rattle.plans.specs.Plans.{Plans, Planned, planned_of, asked, possible, owing
 pub data Standing (R : Type 0) : Type 0 where
   refused : ℕ → Standing R
   judged : R → Standing R
+
+-- what the code answers of that
+unfoldable pub standing_of : {R : Type 0} → Result R Reason → Standing R
+standing_of (Ok r) = judged r
+standing_of (Err reason) = refused (reason_number reason)
 
 module _ {R : Type 0} (E : Engine R) (p : Plans) (at : ℕ) where
   -- a record of the plan asked for is judged as it is; of another, one that is impossible gets 7, one that owes 12

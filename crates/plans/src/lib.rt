@@ -1,19 +1,30 @@
-// Plans that a host lends together, in one slice (document 02, Item 3): limit, period and burst of plan 0, then of plan 1, and so on.
+// Plans that a host lends together, in one slice (document 02, Item 3): limit, period and burst of plan 0, then of plan 1, and so on. It
+// is read as it stands, since C lends it so.
 #![tactic(auto)]
 
-ghost use Rattle.std.specs.Prelude.{◌≡◌, true, ◌<◌, min, length};
-ghost use Rattle.plans.specs.Lent.{plans_in};
+ghost use Rattle.std.specs.Prelude.{◌≡◌, true, ◌<◌, length};
+ghost use Rattle.plans.specs.Lent.{plans_in, setting_of};
 ghost use Rattle.ticks.specs.Grains.{WithinLimits};
-ghost use Rattle.plans.specs.Plans.{plans_of, plan_at, known, lent_ok, plans_ok, Lent};
+ghost use Rattle.plans.specs.Plans.{plan_at, known, asked, lent_ok, plans_ok, Lent};
 
 use ticks::plan::Plan;
 
 pub mod loosest; // a plan by which all that may be free is free
+pub mod planned; // an ask and a look by any engine, under the plans lent
 
 // The most plans that may be lent; the least is 1.
 pub const MOST_PLANS: usize = 16;
 
-// How many plans are lent; 0, which is refused, if the slice holds no whole number of them.
+// All plans that are lent, and the number of the one that is asked for.
+#[derive(Clone, Copy)]
+pub struct Setting<'a> {
+    pub plans: &'a [u32],
+    pub number: u32,
+}
+
+// How many plans are lent; 0, which is refused, if the slice holds no whole number of them: so the definition counts, and no `Option`
+// is needed.
+#[tactic(auto, using(crate::proofs::Lent::lent_count, crate::proofs::Lent::lent_none))]
 pub fn count(plans: &[u32]) -> usize
     ensures { result ≡ length (plans_in plans.now) }
 {
@@ -24,6 +35,7 @@ pub fn count(plans: &[u32]) -> usize
 }
 
 // Whether a plan with the number is lent.
+#[tactic(auto, unfolding(crate::specs::Plans::known))]
 pub fn is_known(plans: &[u32], number: u32) -> bool
     ensures { result ≡ known (plans_in plans.now) number }
 {
@@ -43,38 +55,26 @@ fn nth(plans: &[u32], place: usize) -> Plan
     }
 }
 
-// The plan with a number; zeros, which are no plan, if none with it is lent.
+// The plan with a number; zeros, which are no plan, if none with it is lent: the definition `plan_at` has them, and its clause names them.
+#[tactic(auto, using(crate::proofs::Lent::not_lent, crate::proofs::Lent::lent_below))]
 pub fn plan_at(plans: &[u32], number: u32) -> Plan
     ensures { result ≡ plan_at (plans_in plans.now) number }
 {
     if !is_known(plans, number) {
-        return Plan {
-            limit: 0,
-            period: 0,
-            burst: 0,
-        };
+        return Plan::default();
     }
     nth(plans, number as usize)
 }
 
-// The smaller of two numbers.
-fn smaller(a: usize, b: usize) -> usize
-    ensures { result ≡ min a b }
-{
-    if b < a {
-        return b;
-    }
-    a
-}
-
 // The plan with a number, or the last of those that are lent if it is none of theirs: for tests that may say yes too often.
+// That the plans are good (`Lent`) is required: they are lent as they stand, and a call is answered where they are not.
 pub fn nearest(plans: &[u32], number: u8) -> Plan
     requires { Lent (plans_in plans.now) }
     ensures within_limits { WithinLimits result }
     ensures value { known (plans_in plans.now) number ≡ true → result ≡ plan_at (plans_in plans.now) number }
 {
     let last = count(plans) - 1;
-    nth(plans, smaller(number as usize, last))
+    nth(plans, (number as usize).min(last))
 }
 
 // Whether the plans lent are good: not none, no more than 16, and no bad one. No branch is made for each of them, so that the
@@ -93,17 +93,25 @@ fn are_ok(plans: &[u32]) -> bool
         return nth(plans, 0).is_ok();
     }
     let mut ok = true;
-    let mut i = 0;
-    while i < lent {
-        ok = ok & nth(plans, i).is_ok();
-        i += 1;
+    for i in 0..lent {
+        ok &= nth(plans, i).is_ok();
     }
     ok
 }
 
-// Whether the plans lent are good and the one asked for is among them (check 1).
-pub fn is_ok(plans: &[u32], number: u32) -> bool
-    ensures { result ≡ plans_ok (plans_of (plans_in plans.now) number) }
-{
-    are_ok(plans) & is_known(plans, number)
+impl<'a> Setting<'a> {
+    // Whether the plans lent are good and the one asked for is among them (check 1).
+    #[tactic(auto, unfolding(crate::specs::Plans::plans_ok))]
+    pub fn is_ok(&self) -> bool
+        ensures { result ≡ plans_ok (setting_of self.now) }
+    {
+        are_ok(self.plans) & is_known(self.plans, self.number)
+    }
+
+    // The plan asked for; zeros, which are no plan, if it is not lent.
+    pub fn asked(&self) -> Plan
+        ensures { result ≡ asked (setting_of self.now) }
+    {
+        plan_at(self.plans, self.number)
+    }
 }

@@ -1,20 +1,10 @@
 // A plan that is looser than each of those that are lent: what is not free by it is free by none of them.
-ghost use Rattle.std.specs.Prelude.{◌≡◌, ℕ, ◌<◌, max, length};
+ghost use Rattle.std.specs.Prelude.{◌≡◌, ℕ, ◌<◌, length};
 ghost use Rattle.ticks.specs.Grains.{WithinLimits};
 ghost use Rattle.plans.specs.Lent.{plans_in};
 ghost use Rattle.plans.specs.Plans.{plan_at, Lent, Looser};
 
 use ticks::plan::Plan;
-
-// The larger of two numbers.
-fn larger(a: u32, b: u32) -> u32
-    ensures { result ≡ max a b }
-{
-    if a < b {
-        return b;
-    }
-    a
-}
 
 // The limit of the plan with the larger one, and period and burst of the plan with the smaller capacity.
 fn looser(p: Plan, q: Plan) -> Plan
@@ -23,7 +13,8 @@ fn looser(p: Plan, q: Plan) -> Plan
 {
     let held = p.capacity();
     let holds = q.capacity();
-    let limit = larger(p.limit, q.limit);
+    let limit = p.limit.max(q.limit);
+    // compared as numbers, whose order the proof has
     if held.0 < holds.0 {
         return Plan {
             limit,
@@ -46,10 +37,8 @@ pub fn loosest(plans: &[u32]) -> Plan
 {
     let lent = crate::count(plans);
     let mut loosest = crate::nth(plans, 0);
-    let mut i = 1;
-    while i < lent {
+    for i in 1..lent {
         loosest = looser(loosest, crate::nth(plans, i));
-        i += 1;
     }
     loosest
 }

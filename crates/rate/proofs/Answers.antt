@@ -3,11 +3,11 @@
 use mathlib.Core.Path.{◌≡◌, refl, ap, ◌∙◌}
 use mathlib.Core.Bool.{false}
 use lib.Dec.{eqb}
+use Rattle.std.specs.Prelude.{Ok, Err}
 use Prim.Native.Nat.{ℕ}
 use Rattle.ticks.specs.declared.plan.Plan.{Plan}
 use Rattle.ticks.specs.declared.units.Millis.{Millis}
 use Rattle.rate.specs.declared.answer.Answer.{Answer}
-use Rattle.rate.specs.declared.answer.Cleared.TheVariants.{Done, BadTable as Unfit}
 use Rattle.rate.specs.declared.answer.Outcome.{Outcome}
 use Rattle.rate.specs.declared.answer.Outcome.TheVariants.{Admitted, Throttled, Refused}
 use Rattle.rate.specs.declared.answer.Reason.{Reason}
@@ -102,6 +102,11 @@ pub bare_is : (n : ℕ) → bare n ≡ record { number = n; left = 0; reset = 0;
 unfolding bare
 bare_is n = refl
 
+-- .. and with a subscriber
+pub answered_bare : (n subscriber : ℕ) → answered subscriber (bare n) ≡ record { number = n; subscriber = subscriber; left = 0; reset = 0; wait = 0 }
+unfolding answered bare
+answered_bare n subscriber = refl
+
 -- the number of each verdict
 pub bare_number : (n : ℕ) → (bare n).number ≡ n
 unfolding bare
@@ -177,18 +182,18 @@ unfolding numbers_of answered
 answer_is a v e = ap (λ (w : Verdict). answered a.subscriber w) e
 
 -- the five numbers of a clear
-pub done_is : cleared_numbers Done ≡ record { number = 0; subscriber = 0; left = 0; reset = 0; wait = 0 }
+pub done_is : cleared_numbers (Ok tt) ≡ record { number = 0; subscriber = 0; left = 0; reset = 0; wait = 0 }
 unfolding cleared_numbers answered bare
 done_is = refl
 
-pub unfit_is : cleared_numbers Unfit ≡ record { number = 2; subscriber = 0; left = 0; reset = 0; wait = 0 }
-unfolding cleared_numbers answered bare
+pub unfit_is : cleared_numbers (Err BadTable) ≡ record { number = 2; subscriber = 0; left = 0; reset = 0; wait = 0 }
+unfolding cleared_numbers answered bare reason_number
 unfit_is = refl
 
-pub cleared_done : cleared_numbers Done ≡ answered 0 (bare 0)
+pub cleared_done : cleared_numbers (Ok tt) ≡ answered 0 (bare 0)
 unfolding cleared_numbers
 cleared_done = refl
 
-pub cleared_unfit : cleared_numbers Unfit ≡ answered 0 (bare 2)
-unfolding cleared_numbers
+pub cleared_unfit : cleared_numbers (Err BadTable) ≡ answered 0 (bare 2)
+unfolding cleared_numbers reason_number
 cleared_unfit = refl

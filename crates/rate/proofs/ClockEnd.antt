@@ -1,37 +1,43 @@
 -- The clock's end (document 02, Item 13): a wait that ends within the clock's limit is told, and any other is not on this clock;
 -- and what a request that is not admitted gets in either case.
 -- Assumes nothing.
-use mathlib.Core.Path.{◌≡◌, refl, ap, ◌∙◌}
+use mathlib.Core.Path.{◌≡◌, refl, sym, ap, ◌∙◌}
 use mathlib.Core.Bool.{Bool, true, false, cond}
-use Prim.Native.Nat.{ℕ, ◌+◌}
+use Prim.Native.Nat.{ℕ, ◌+◌, ◌≤◌, ◌<◌}
 use native.Mathlib.Omega.{arith}
 use lib.Dec.{eqb}
+use Rattle.std.specs.Prelude.{Option, Some, None}
 use Rattle.ticks.specs.declared.plan.Plan.{Plan}
 use Rattle.ticks.specs.declared.units.Millis.{Millis}
-use Rattle.ticks.specs.Grains.{on_clock}
+use Rattle.ticks.specs.Grains.{on_clock, last_moment}
 use Rattle.ticks.proofs.Limits.{clock_within, clock_beyond, on_clock_lem, off_clock}
-use Rattle.rate.specs.declared.retry.Retry.{Retry}
-use Rattle.rate.specs.declared.retry.Retry.TheVariants.{After, NotOnClock}
 use Rattle.rate.specs.Decision.{Verdict, bare, retry_from, denied, throttled, remaining, reset_at, retry_after}
 use Rattle.rate.proofs.Answers.{bare_number}
 
-pub retry_within : (at wait : ℕ) → on_clock (at + wait) ≡ true → retry_from at wait ≡ After (record { 0 = wait })
+pub retry_within : (at wait : ℕ) → on_clock (at + wait) ≡ true → retry_from at wait ≡ Some (record { 0 = wait })
 unfolding retry_from
 retry_within at wait e =
-    ap (λ (t : Bool). cond t (After (record { 0 = wait })) NotOnClock) (clock_within _ (omega (arith, on_clock_lem (at + wait) e)))
+    ap (λ (t : Bool). cond t (Some (record { 0 = wait })) None) (clock_within _ (omega (arith, on_clock_lem (at + wait) e)))
 
-pub retry_beyond : (at wait : ℕ) → on_clock (at + wait) ≡ false → retry_from at wait ≡ NotOnClock
+pub retry_beyond : (at wait : ℕ) → on_clock (at + wait) ≡ false → retry_from at wait ≡ None
 unfolding retry_from
 retry_beyond at wait e =
-    ap (λ (t : Bool). cond t (After (record { 0 = wait })) NotOnClock) (clock_beyond _ (omega (arith, off_clock (at + wait) e)))
+    ap (λ (t : Bool). cond t (Some (record { 0 = wait })) None) (clock_beyond _ (omega (arith, off_clock (at + wait) e)))
+
+-- the same by the numbers
+pub retry_fits : (at : ℕ) (wait : Millis) → at + wait.0 ≤ last_moment → Some wait ≡ retry_from at wait.0
+retry_fits at wait h = sym (retry_within at wait.0 (clock_within _ h))
+
+pub retry_ends_beyond : (at wait : ℕ) → last_moment < at + wait → None ≡ retry_from at wait
+retry_ends_beyond at wait h = sym (retry_beyond at wait (clock_beyond _ h))
 
 -- what a rule answers in either case
 pub denied_8 :
-    (left reset : ℕ) (wait : Millis) → denied left reset (After wait) ≡ record { number = 8; left = left; reset = reset; wait = wait.0 }
+    (left reset : ℕ) (wait : Millis) → denied left reset (Some wait) ≡ record { number = 8; left = left; reset = reset; wait = wait.0 }
 unfolding denied
 denied_8 left reset wait = refl
 
-pub denied_13 : (left reset : ℕ) → denied left reset NotOnClock ≡ bare 13
+pub denied_13 : (left reset : ℕ) → denied left reset None ≡ bare 13
 unfolding denied
 denied_13 left reset = refl
 
@@ -43,13 +49,13 @@ module _ (p : Plan) (at backlog cost : ℕ) where
       ≡ record { number = 8; left = remaining p backlog; reset = reset_at p at backlog; wait = retry_after p backlog cost }
   unfolding throttled
   throttled_8 e =
-      ap (λ (r : Retry). denied (remaining p backlog) (reset_at p at backlog) r) (retry_within at (retry_after p backlog cost) e)
+      ap (λ (r : Option Millis). denied (remaining p backlog) (reset_at p at backlog) r) (retry_within at (retry_after p backlog cost) e)
       ∙ denied_8 (remaining p backlog) (reset_at p at backlog) (record { 0 = retry_after p backlog cost })
 
   pub throttled_13 : on_clock (at + retry_after p backlog cost) ≡ false → throttled p at backlog cost ≡ bare 13
   unfolding throttled
   throttled_13 e =
-      ap (λ (r : Retry). denied (remaining p backlog) (reset_at p at backlog) r) (retry_beyond at (retry_after p backlog cost) e)
+      ap (λ (r : Option Millis). denied (remaining p backlog) (reset_at p at backlog) r) (retry_beyond at (retry_after p backlog cost) e)
       ∙ denied_13 (remaining p backlog) (reset_at p at backlog)
 
   -- a property that a verdict has in both cases

@@ -1,8 +1,6 @@
 -- Document 01, 'When the gate says no': the number and the values of each case of an answer.
-use Rattle.std.specs.Prelude.{ℕ}
+use Rattle.std.specs.Prelude.{ℕ, Result, Ok, Err}
 use Rattle.rate.specs.declared.answer.Answer.{Answer}
-use Rattle.rate.specs.declared.answer.Cleared.{Cleared}
-use Rattle.rate.specs.declared.answer.Cleared.TheVariants.{Done, BadTable as Unfit}
 use Rattle.rate.specs.declared.answer.Numbers.{Numbers}
 use Rattle.rate.specs.declared.answer.Outcome.{Outcome}
 use Rattle.rate.specs.declared.answer.Outcome.TheVariants.{Admitted, Throttled, Refused}
@@ -39,7 +37,7 @@ answered subscriber v =
 unfoldable pub numbers_of : Answer → Numbers
 numbers_of a = answered a.subscriber (verdict_of a.outcome)
 
--- the five numbers of a clear: 0 or 2, and zeros
-unfoldable pub cleared_numbers : Cleared → Numbers
-cleared_numbers Done = answered 0 (bare 0)
-cleared_numbers Unfit = answered 0 (bare 2)
+-- the five numbers of a clear: 0 or its cause's number, and zeros
+unfoldable pub cleared_numbers : Result (Unit {0}) Reason → Numbers
+cleared_numbers (Ok done) = answered 0 (bare 0)
+cleared_numbers (Err reason) = answered 0 (bare (reason_number reason))

@@ -1,6 +1,6 @@
 -- The backlog law: what an engine's formulas come to, whatever it stores. What is said of engines uses them through this record
--- alone, and through the account that an engine keeps by it (`alone`). proofs/Laws of `rule_gcra` and of `rule_token_bucket` show
--- it of the two engines.
+-- alone, and through the account that an engine keeps by it (`alone`). specs/Lawful of `rule_gcra` and of `rule_token_bucket`
+-- show it of the two engines.
 use Rattle.std.specs.Prelude.{◌≡◌, true, ◌&&◌, ℕ, ◌+◌, ◌-◌, ◌≤◌, eqb}
 use Rattle.ticks.specs.declared.plan.Plan.{Plan}
 use Rattle.ticks.specs.Grains.{ticks_in, price, capacity}

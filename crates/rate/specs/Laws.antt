@@ -1,15 +1,13 @@
 -- The laws of this crate: what holds of its definitions, for all numbers; proofs/Laws shows them. That two engines with the
 -- backlog law (`Lawful`) agree over the life of one record is `Agreement` (Life).
-use Rattle.std.specs.Prelude.{ℕ, ◌+◌, ◌≤◌, ◌≡◌, true, false, eqb, leb}
+use Rattle.std.specs.Prelude.{ℕ, ◌+◌, ◌≤◌, ◌≡◌, true, false, eqb, leb, Some, None, Ok, Err}
 use Rattle.ticks.specs.declared.plan.Plan.{Plan}
 use Rattle.ticks.specs.declared.units.Millis.{Millis}
 use Rattle.ticks.specs.Grains.{price, div_up}
 use Rattle.rate.specs.declared.answer.Answer.{Answer}
-use Rattle.rate.specs.declared.answer.Cleared.TheVariants.{Done, BadTable as Unfit}
 use Rattle.rate.specs.declared.answer.Outcome.TheVariants.{Admitted, Throttled, Refused}
 use Rattle.rate.specs.declared.answer.Reason.{Reason}
 use Rattle.rate.specs.declared.answer.Reason.TheVariants.{BadPlan, BadTable, LateMoment, EarlyMoment, NoSubscriber, ZeroCost, CostAboveBurst, CorruptRecord, OtherPlan, NotOnClock, TableFull}
-use Rattle.rate.specs.declared.retry.Retry.TheVariants.{After, NotOnClock as OffClock}
 use Rattle.rate.specs.Decision.{Verdict, ZerosBeside, admissible, remaining, reset_at, retry_after, admitted, retry_from, denied, throttled}
 use Rattle.rate.specs.Answer.{reason_number, verdict_of, numbers_of, cleared_numbers}
 use Rattle.rate.specs.Account.{Account, judge, report}
@@ -41,17 +39,17 @@ pub record OutcomeNumbers : Type 0 where
       (a : Answer) (v : Verdict) → verdict_of a.outcome ≡ v →
       numbers_of a ≡ record { number = v.number; subscriber = a.subscriber; left = v.left; reset = v.reset; wait = v.wait }
   -- a clear answers 0 or 2, zeros beside either
-  pub done_is : cleared_numbers Done ≡ record { number = 0; subscriber = 0; left = 0; reset = 0; wait = 0 }
-  pub unfit_is : cleared_numbers Unfit ≡ record { number = 2; subscriber = 0; left = 0; reset = 0; wait = 0 }
+  pub done_is : cleared_numbers (Ok tt) ≡ record { number = 0; subscriber = 0; left = 0; reset = 0; wait = 0 }
+  pub unfit_is : cleared_numbers (Err BadTable) ≡ record { number = 2; subscriber = 0; left = 0; reset = 0; wait = 0 }
 
 -- document 02, Item 13, of any rule that answers 8: a wait that ends by the clock's last moment is told, and one that ends a
 -- millisecond later or more is "not on this clock", which is 13 with zeros
 pub record RetryLaws : Type 0 where
-  pub ends_within : (at wait : ℕ) → at + wait ≤ 4398046511103 → retry_from at wait ≡ After (record { 0 = wait })
-  pub ends_beyond : (at wait : ℕ) → 4398046511104 ≤ at + wait → retry_from at wait ≡ OffClock
+  pub ends_within : (at wait : ℕ) → at + wait ≤ 4398046511103 → retry_from at wait ≡ Some (record { 0 = wait })
+  pub ends_beyond : (at wait : ℕ) → 4398046511104 ≤ at + wait → retry_from at wait ≡ None
   pub denied_8 :
-      (left reset : ℕ) (wait : Millis) → denied left reset (After wait) ≡ record { number = 8; left = left; reset = reset; wait = wait.0 }
-  pub denied_13 : (left reset : ℕ) → denied left reset OffClock ≡ record { number = 13; left = 0; reset = 0; wait = 0 }
+      (left reset : ℕ) (wait : Millis) → denied left reset (Some wait) ≡ record { number = 8; left = left; reset = reset; wait = wait.0 }
+  pub denied_13 : (left reset : ℕ) → denied left reset None ≡ record { number = 13; left = 0; reset = 0; wait = 0 }
 
 -- document 01, 'The decision': what left, reset and wait are worth, of a backlog that a full bucket covers
 pub record DecisionLaws (p : Plan) (backlog : ℕ) : Type 0 where

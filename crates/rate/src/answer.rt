@@ -41,13 +41,6 @@ pub struct Answer {
     pub outcome: Outcome,
 }
 
-// The answer of a clear.
-#[derive(Clone, Copy)]
-pub enum Cleared {
-    Done,
-    BadTable,
-}
-
 // Document 01's five numbers of an answer, in the order of its output.
 #[derive(Clone, Copy)]
 pub struct Numbers {
@@ -59,44 +52,51 @@ pub struct Numbers {
 }
 
 // The number of a refusal.
-pub fn reason_number(reason: Reason) -> u64
-    ensures { result ≡ reason_number reason }
-{
-    match reason {
-        Reason::BadPlan => 1,
-        Reason::BadTable => 2,
-        Reason::LateMoment => 3,
-        Reason::EarlyMoment => 11,
-        Reason::NoSubscriber => 4,
-        Reason::ZeroCost => 5,
-        Reason::CostAboveBurst => 6,
-        Reason::CorruptRecord => 7,
-        Reason::OtherPlan => 12,
-        Reason::NotOnClock => 13,
-        Reason::TableFull => 9,
+impl From<Reason> for u64 {
+    ghost from_gives = { λ reason number. number ≡ reason_number reason };
+
+    #[tactic(auto, unfolding(crate::specs::Answer::reason_number))]
+    fn from(reason: Reason) -> u64 {
+        match reason {
+            Reason::BadPlan => 1,
+            Reason::BadTable => 2,
+            Reason::LateMoment => 3,
+            Reason::EarlyMoment => 11,
+            Reason::NoSubscriber => 4,
+            Reason::ZeroCost => 5,
+            Reason::CostAboveBurst => 6,
+            Reason::CorruptRecord => 7,
+            Reason::OtherPlan => 12,
+            Reason::NotOnClock => 13,
+            Reason::TableFull => 9,
+        }
     }
 }
 
-// A number with zeros beside it.
-fn bare(number: u64, subscriber: u64) -> Numbers
-    ensures { result ≡ answered subscriber (bare number) }
-{
-    Numbers {
-        number,
-        subscriber,
-        left: 0,
-        reset: 0,
-        wait: 0,
-    }
-}
-
-impl Answer {
-    // The five numbers of an answer.
-    pub fn to_numbers(self) -> Numbers
-        ensures { result ≡ numbers_of self }
+impl Numbers {
+    // A number with zeros beside it.
+    #[tactic(auto, unfolding(crate::specs::Answer::answered, crate::specs::Decision::bare))]
+    pub fn bare(number: u64, subscriber: u64) -> Numbers
+        ensures { result ≡ answered subscriber (bare number) }
     {
-        let subscriber = self.subscriber as u64;
-        let outcome = self.outcome;
+        Numbers {
+            number,
+            subscriber,
+            left: 0,
+            reset: 0,
+            wait: 0,
+        }
+    }
+}
+
+// The five numbers of an answer.
+impl From<Answer> for Numbers {
+    ghost from_gives = { λ answer numbers. numbers ≡ numbers_of answer };
+
+    #[tactic(auto, unfolding(crate::specs::Answer::numbers_of, crate::specs::Answer::answered, crate::specs::Answer::verdict_of, crate::specs::Decision::bare))]
+    fn from(answer: Answer) -> Numbers {
+        let subscriber = answer.subscriber as u64;
+        let outcome = answer.outcome;
         match outcome {
             Outcome::Admitted {
                 remaining,
@@ -119,19 +119,20 @@ impl Answer {
                 reset: reset_at.0,
                 wait: retry_after.0,
             },
-            Outcome::Refused(reason) => bare(reason_number(reason), subscriber),
+            Outcome::Refused(reason) => Numbers::bare(u64::from(reason), subscriber),
         }
     }
 }
 
-impl Cleared {
-    // The five numbers of a clear's answer.
-    pub fn to_numbers(self) -> Numbers
-        ensures { result ≡ cleared_numbers self }
-    {
-        match self {
-            Cleared::Done => bare(0, 0),
-            Cleared::BadTable => bare(2, 0),
+// The five numbers of a clear's answer: it was done, or it is refused.
+impl From<Result<(), Reason>> for Numbers {
+    ghost from_gives = { λ cleared numbers. numbers ≡ cleared_numbers cleared };
+
+    #[tactic(auto, unfolding(crate::specs::Answer::cleared_numbers))]
+    fn from(cleared: Result<(), Reason>) -> Numbers {
+        match cleared {
+            Ok(()) => Numbers::bare(0, 0),
+            Err(reason) => Numbers::bare(u64::from(reason), 0),
         }
     }
 }

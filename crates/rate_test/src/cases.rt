@@ -1,6 +1,6 @@
 // The cases: each limit of document 01, at it and one beyond, and each number of an answer.
 use crate::reckon;
-use rate::answer::{Cleared, Reason};
+use rate::answer::Reason;
 
 pub fn plans(rt: &impl Print) {
     reckon::plan(rt, 0, 1000, 2);
@@ -41,8 +41,8 @@ pub fn answers(rt: &impl Print) {
     reckon::refused(rt, 8, Reason::OtherPlan, shop);
     reckon::refused(rt, 9, Reason::NotOnClock, shop);
     reckon::refused(rt, 10, Reason::TableFull, shop);
-    reckon::cleared(rt, 0, Cleared::Done);
-    reckon::cleared(rt, 1, Cleared::BadTable);
+    reckon::cleared(rt, 0, Ok(()));
+    reckon::cleared(rt, 1, Err(Reason::BadTable));
 }
 
 // Waits that end at the clock's last moment or a millisecond beyond it, and the largest numbers.

@@ -3,18 +3,17 @@
 #![tactic(auto)]
 
 mod cases;
-mod line;
 mod reckon;
 
 fn main(rt: HostRuntime) {
-    line::title(&rt, b"refusals and clears");
+    let _ = println!(rt; "# refusals and clears");
     cases::answers(&rt);
-    line::title(&rt, b"plans");
+    let _ = println!(rt; "# plans");
     cases::plans(&rt);
-    line::title(&rt, b"moments");
+    let _ = println!(rt; "# moments");
     cases::moments(&rt);
-    line::title(&rt, b"waits");
+    let _ = println!(rt; "# waits");
     cases::waits(&rt);
-    line::title(&rt, b"division rounded up");
+    let _ = println!(rt; "# division rounded up");
     cases::divisions(&rt);
 }

@@ -1,30 +1,43 @@
-// One line for each thing that is tried.
-use crate::line;
-use rate::answer::{Answer, Cleared, Outcome, Reason};
-use rate::retry::Retry;
+// One line for each thing that is tried: a word and tabbed numbers. What cannot be written is missing there, and nothing else tells of it.
+use rate::answer::{Answer, Numbers, Outcome, Reason};
+use rate::retry;
+use std::fmt;
 use ticks::plan::Plan;
 use ticks::round;
 use ticks::units::Millis;
 
-// limit, period, burst: within the limits or not
+// The five numbers of an answer.
+#[derive(Clone, Copy)]
+struct Five(Numbers);
+
+impl fmt::Display for Five {
+    fn fmt<W: fmt::Write>(&self, f: &mut fmt::Formatter<W>) -> fmt::Result {
+        let Numbers {
+            number,
+            subscriber,
+            left,
+            reset,
+            wait,
+        } = self.0;
+        write!(f, "{number}\t{subscriber}\t{left}\t{reset}\t{wait}")
+    }
+}
+
+// limit, period, burst: 1 if within the limits, or 0
 pub fn plan(rt: &impl Print, limit: u32, period: u32, burst: u32) {
-    let p = Plan {
+    let plan = Plan {
         limit,
         period,
         burst,
     };
-    line::word(rt, b"plan");
-    line::plan(rt, p);
-    line::flag(rt, p.is_ok());
-    line::end(rt);
+    let ok = plan.is_ok() as u8;
+    let _ = println!(rt; "plan\t{limit}\t{period}\t{burst}\t{ok}");
 }
 
-// moment: within the limit or not
+// moment: 1 if within the limit, or 0
 pub fn moment(rt: &impl Print, at: u64) {
-    line::word(rt, b"moment");
-    line::number(rt, at);
-    line::flag(rt, Millis(at).is_on_clock());
-    line::end(rt);
+    let ok = Millis(at).is_on_clock() as u8;
+    let _ = println!(rt; "moment\t{at}\t{ok}");
 }
 
 // which reason, counted from 0 in the order of the checks, and subscriber: the five numbers of the refusal
@@ -33,37 +46,29 @@ pub fn refused(rt: &impl Print, place: u64, reason: Reason, subscriber: u32) {
         subscriber,
         outcome: Outcome::Refused(reason),
     };
-    line::word(rt, b"refused");
-    line::number(rt, place);
-    line::number(rt, subscriber as u64);
-    line::numbers(rt, answer.to_numbers());
+    let five = Five(Numbers::from(answer));
+    let _ = println!(rt; "refused\t{place}\t{subscriber}\t{five}");
 }
 
 // 0 for a clear that was done, 1 for a table that was refused: the five numbers
-pub fn cleared(rt: &impl Print, place: u64, answer: Cleared) {
-    line::word(rt, b"cleared");
-    line::number(rt, place);
-    line::numbers(rt, answer.to_numbers());
+pub fn cleared(rt: &impl Print, place: u64, answer: Result<(), Reason>) {
+    let five = Five(Numbers::from(answer));
+    let _ = println!(rt; "cleared\t{place}\t{five}");
 }
 
 // moment, wait: the five numbers for subscriber 7, with 1 left and reset at 2 if the wait is told
 pub fn wait(rt: &impl Print, now: u64, wait: u64) {
-    let retry = Retry::from(Millis(now), Millis(wait));
+    let told = retry::retry_from(Millis(now), Millis(wait));
     let answer = Answer {
         subscriber: 7,
-        outcome: retry.to_outcome(1, Millis(2)),
+        outcome: retry::denied(told, 1, Millis(2)),
     };
-    line::word(rt, b"wait");
-    line::number(rt, now);
-    line::number(rt, wait);
-    line::numbers(rt, answer.to_numbers());
+    let five = Five(Numbers::from(answer));
+    let _ = println!(rt; "wait\t{now}\t{wait}\t{five}");
 }
 
 // dividend, divisor: quotient rounded up
 pub fn div_up(rt: &impl Print, a: u64, d: u64) {
-    line::word(rt, b"div_up");
-    line::number(rt, a);
-    line::number(rt, d);
-    line::number(rt, round::div_up(a, d));
-    line::end(rt);
+    let quotient = round::div_up(a, d);
+    let _ = println!(rt; "div_up\t{a}\t{d}\t{quotient}");
 }

@@ -18,7 +18,7 @@ use Rattle.ticks.proofs.Limits.{ticks_most, on_clock_lem}
 use Rattle.ticks.proofs.Tests.{leb_same, not_both}
 use Rattle.plans.specs.Plans.{Plans, known, plan_at, Lending}
 use Rattle.plans.proofs.Lent.{is_lent, is_unlent, lent_below}
-use Rattle.plans.proofs.Planned.{ok_facts}
+use Rattle.plans.proofs.Accounts.{ok_facts}
 use Rattle.rule_gcra.specs.Gcra.{gcra}
 use Rattle.rule_gcra.specs.Planned.{Drained}
 use Rattle.rule_gcra.proofs.Laws.{free_test}

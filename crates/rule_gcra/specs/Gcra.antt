@@ -3,11 +3,7 @@ use Rattle.std.specs.Prelude.{ℕ, ◌+◌, ◌-◌, max, Bool, leb}
 use Rattle.ticks.specs.declared.plan.Plan.{Plan}
 use Rattle.ticks.specs.declared.units.Ticks.{Ticks}
 use Rattle.ticks.specs.Grains.{ticks_in, price, capacity}
-use Rattle.rate.specs.Answer.{verdict_of}
 use Rattle.rate.specs.Engine.{Engine}
-use Rattle.rate.specs.Account.{Settled, kept, spent}
-use Rattle.rule_gcra.specs.declared.Judgement.{Judgement}
-use Rattle.rule_gcra.specs.declared.Judgement.TheVariants.{Keep, Spend}
 
 -- a TAT of 0 owes nothing at any moment
 unfoldable pub fresh : Plan → ℕ → Ticks
@@ -47,8 +43,3 @@ gcra =
       admits = admits;
       spend = spend;
     }
-
--- what `judge` answers, as the definitions have it
-unfoldable pub judgement_of : Judgement → Settled Ticks
-judgement_of (Keep outcome) = kept (verdict_of outcome)
-judgement_of (Spend outcome tat) = spent (verdict_of outcome) tat

@@ -3,11 +3,7 @@ use Rattle.std.specs.Prelude.{ℕ, ◌+◌, ◌-◌, min, Bool, ◌&&◌, nat_le
 use Rattle.ticks.specs.declared.plan.Plan.{Plan}
 use Rattle.rule_token_bucket.specs.declared.Bucket.{Bucket}
 use Rattle.ticks.specs.Grains.{ticks_in, price, capacity}
-use Rattle.rate.specs.Answer.{verdict_of}
 use Rattle.rate.specs.Engine.{Engine}
-use Rattle.rate.specs.Account.{Settled, kept, spent}
-use Rattle.rule_token_bucket.specs.declared.Judgement.{Judgement}
-use Rattle.rule_token_bucket.specs.declared.Judgement.TheVariants.{Keep, Spend}
 
 -- without a record the bucket is full
 unfoldable pub fresh : Plan → ℕ → Bucket
@@ -51,8 +47,3 @@ token_bucket =
       admits = admits;
       spend = spend;
     }
-
--- what `judge` answers, as the definitions have it
-unfoldable pub judgement_of : Judgement → Settled Bucket
-judgement_of (Keep outcome) = kept (verdict_of outcome)
-judgement_of (Spend outcome bucket) = spent (verdict_of outcome) bucket

@@ -7,8 +7,8 @@ use lib.Dec.{eqb}
 use Rattle.rate.specs.Answer.{answered}
 use Rattle.rate.specs.Decision.{Verdict, bare}
 use Rattle.rate.specs.Account.{guard, Judged, Settled, kept, spent, settled}
-use Rattle.table.specs.declared.search.Place.{Place}
-use Rattle.table.specs.declared.search.Place.TheVariants.{Nowhere, At}
+use Rattle.std.specs.Prelude.{Option}
+use Rattle.std.specs.Prelude.{Some, None}
 use Rattle.table.specs.Request.{Query, Request}
 use Rattle.table.specs.Checks.{slots_ok, query_check, request_check}
 use Rattle.table.specs.Rule.{Rule}
@@ -38,32 +38,32 @@ module _ {R : Type 0} (i : ℕ) (j : Judged R) where
 module _ {C P R : Type 0} (U : Rule P R) (K : Columns C R) (c : C) where
   module _ (q : Query P) where
     -- the slot of an ask
-    pub slot_own : {i : ℕ} → own K q.subscriber c ≡ At i → slot_for U K q c ≡ at i (K.row c i)
+    pub slot_own : {i : ℕ} → own K q.subscriber c ≡ Some i → slot_for U K q c ≡ at i (K.row c i)
     unfolding slot_for slot_from
-    slot_own e = ap (λ (p : Place). slot_from U K q c p) e
+    slot_own e = ap (λ (p : Option ℕ). slot_from U K q c p) e
 
-    slot_newcomer : {p : Place} → own K q.subscriber c ≡ Nowhere → lowest_free U K q.setting q.moment c ≡ p → slot_for U K q c ≡ newcomer U q p
+    slot_newcomer : {p : Option ℕ} → own K q.subscriber c ≡ None → lowest_free U K q.setting q.moment c ≡ p → slot_for U K q c ≡ newcomer U q p
     unfolding slot_for slot_from
-    slot_newcomer e f = ap (λ (p : Place). slot_from U K q c p) e ∙ ap (λ (p : Place). newcomer U q p) f
+    slot_newcomer e f = ap (λ (p : Option ℕ). slot_from U K q c p) e ∙ ap (λ (p : Option ℕ). newcomer U q p) f
 
     pub slot_new :
-        {i : ℕ} → own K q.subscriber c ≡ Nowhere → lowest_free U K q.setting q.moment c ≡ At i →
+        {i : ℕ} → own K q.subscriber c ≡ None → lowest_free U K q.setting q.moment c ≡ Some i →
         slot_for U K q c ≡ at i (U.fresh q.setting q.moment)
     unfolding newcomer
     slot_new e f = slot_newcomer e f
 
-    pub slot_none : own K q.subscriber c ≡ Nowhere → lowest_free U K q.setting q.moment c ≡ Nowhere → slot_for U K q c ≡ none
+    pub slot_none : own K q.subscriber c ≡ None → lowest_free U K q.setting q.moment c ≡ None → slot_for U K q c ≡ none
     unfolding newcomer
     slot_none e f = slot_newcomer e f
 
     -- the slot goes by how many there are, their numbers and their records, and not by the newest moment
     slot_from_reads :
-        (d : C) → K.slots c ≡ K.slots d → K.ids c ≡ K.ids d → K.row c ≡ K.row d → (p : Place) →
+        (d : C) → K.slots c ≡ K.slots d → K.ids c ≡ K.ids d → K.row c ≡ K.row d → (p : Option ℕ) →
         slot_from U K q c p ≡ slot_from U K q d p
     unfolding slot_from lowest_free vacant
-    slot_from_reads d slots ids row Nowhere =
+    slot_from_reads d slots ids row None =
         λ k. newcomer U q (seek (λ (j : ℕ). carries (ids k) 0 j || U.free q.setting q.moment (row k j)) (slots k))
-    slot_from_reads d slots ids row (At i) = λ k. at i (row k i)
+    slot_from_reads d slots ids row (Some i) = λ k. at i (row k i)
 
     pub slot_reads :
         (d : C) → K.slots c ≡ K.slots d → K.ids c ≡ K.ids d → K.row c ≡ K.row d → slot_for U K q c ≡ slot_for U K q d
@@ -73,13 +73,13 @@ module _ {C P R : Type 0} (U : Rule P R) (K : Columns C R) (c : C) where
         ∙ (λ k. slot_from U K q d (seek (carries (ids k) q.subscriber) (slots k)))
 
     -- the record of a look
-    pub held_own : {i : ℕ} → own K q.subscriber c ≡ At i → held U K q c ≡ K.row c i
+    pub held_own : {i : ℕ} → own K q.subscriber c ≡ Some i → held U K q c ≡ K.row c i
     unfolding held held_at
-    held_own e = ap (λ (p : Place). held_at U K q c p) e
+    held_own e = ap (λ (p : Option ℕ). held_at U K q c p) e
 
-    pub held_fresh : own K q.subscriber c ≡ Nowhere → held U K q c ≡ U.fresh q.setting q.moment
+    pub held_fresh : own K q.subscriber c ≡ None → held U K q c ≡ U.fresh q.setting q.moment
     unfolding held held_at
-    held_fresh e = ap (λ (p : Place). held_at U K q c p) e
+    held_fresh e = ap (λ (p : Option ℕ). held_at U K q c p) e
 
     pub peek_refused : eqb (query_check (gate U K q c)) 0 ≡ false → peek_verdict U K q c ≡ bare (query_check (gate U K q c))
     unfolding peek_verdict

@@ -5,7 +5,7 @@ use Prim.Native.Nat.{ℕ, ◌≤◌, ◌<◌}
 use native.Mathlib.Omega.{arith}
 use lib.ListN.{length, length-set, length-replicate}
 use lib.Seq.{get_or-set_same, get_or-set_other}
-use Rattle.plans.specs.Plans.{Planned}
+use Rattle.plans.specs.declared.planned.Planned.{Planned}
 use Rattle.table.specs.Numbered.{Numbered, numbered}
 use Rattle.table.specs.Slots.{Columns, common}
 use Rattle.table.proofs.Slots.{common_equal, common_same}

@@ -11,8 +11,8 @@ use Rattle.rate.specs.Account.{Account, Judged, guard, settled}
 use Rattle.rate.specs.Balanced.{Balanced}
 use Rattle.rate.proofs.Answers.{bare_number}
 use Rattle.rate.proofs.Cases.{guard_0, guard_not_0}
-use Rattle.table.specs.declared.search.Place.{Place}
-use Rattle.table.specs.declared.search.Place.TheVariants.{Nowhere, At}
+use Rattle.std.specs.Prelude.{Option}
+use Rattle.std.specs.Prelude.{Some, None}
 use Rattle.table.specs.Request.{Query, Request}
 use Rattle.table.specs.Checks.{request_check}
 use Rattle.table.specs.Rule.{Rule, rule_of}
@@ -26,11 +26,11 @@ use Rattle.table.proofs.Seek.{Sought, sought, seek_at, seek_nowhere}
 
 module _ {C P R : Type 0} (K : Columns C R) (q : Query P) (c : C) where
   -- the own slot is the lowest that carries the number, or there is none
-  pub own_at : {i : ℕ} → Own K q c i → own K q.subscriber c ≡ At i
+  pub own_at : {i : ℕ} → Own K q c i → own K q.subscriber c ≡ Some i
   unfolding own
   own_at o = seek_at _ _ _ o
 
-  pub own_nowhere : Unknown K q c → own K q.subscriber c ≡ Nowhere
+  pub own_nowhere : Unknown K q c → own K q.subscriber c ≡ None
   unfolding own
   own_nowhere u = seek_nowhere _ _ u
 
@@ -49,15 +49,15 @@ module _ {C P R : Type 0} (U : Rule P R) (K : Columns C R) (q : Query P) (c : C)
     in_free : (i : ℕ) → Unknown K q c → Vacant U K q c i → s ≡ at i (U.fresh q.setting q.moment) → Placed s
     nowhere : Unknown K q c → Full U K q c → s ≡ none → Placed s
 
-  placed_new : (p : Place) → Unknown K q c → Sought (vacant U K q.setting q.moment c) (K.slots c) p → Placed (newcomer U q p)
+  placed_new : (p : Option ℕ) → Unknown K q c → Sought (vacant U K q.setting q.moment c) (K.slots c) p → Placed (newcomer U q p)
   unfolding newcomer
-  placed_new Nowhere unknown full = nowhere unknown full refl
-  placed_new (At i) unknown free = in_free i unknown free refl
+  placed_new None unknown full = nowhere unknown full refl
+  placed_new (Some i) unknown free = in_free i unknown free refl
 
-  placed_from : (p : Place) → Sought (carries (K.ids c) q.subscriber) (K.slots c) p → Placed (slot_from U K q c p)
+  placed_from : (p : Option ℕ) → Sought (carries (K.ids c) q.subscriber) (K.slots c) p → Placed (slot_from U K q c p)
   unfolding slot_from lowest_free
-  placed_from Nowhere unknown = placed_new (seek (vacant U K q.setting q.moment c) (K.slots c)) unknown (sought (vacant U K q.setting q.moment c) (K.slots c))
-  placed_from (At i) found = in_own i found refl
+  placed_from None unknown = placed_new (seek (vacant U K q.setting q.moment c) (K.slots c)) unknown (sought (vacant U K q.setting q.moment c) (K.slots c))
+  placed_from (Some i) found = in_own i found refl
 
   pub placed : Placed (slot_for U K q c)
   unfolding slot_for own

@@ -27,6 +27,15 @@ common_equal a b = by (eqb a b) refl
     by true e h = eqb-true a b e
     by false e h = absurd (omega arith)
 
+-- it is no more than either
+pub common_least : (a b : ℕ) → (common a b ≤ a) × (common a b ≤ b)
+unfolding common
+common_least a b = by (eqb a b) refl
+  where
+    by : (t : Bool) → eqb a b ≡ t → (cond t a 0 ≤ a) × (cond t a 0 ≤ b)
+    by true e = let same : a ≡ b = eqb-true a b e in (omega arith, omega arith)
+    by false e = (omega arith, omega arith)
+
 -- a slot carries the number that stands in it, and no other
 pub carried : (ids : List ℕ) (subscriber i : ℕ) → carries ids subscriber i ≡ true → get_or ids i 0 ≡ subscriber
 unfolding carries

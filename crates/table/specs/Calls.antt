@@ -1,12 +1,10 @@
 -- The calls: for any request and any columns the whole answer, and the whole content of the columns afterwards. They are
 -- generic over the rule and over the columns; a run of calls goes by these functions.
-use Rattle.std.specs.Prelude.{ℕ, cond}
+use Rattle.std.specs.Prelude.{ℕ, cond, Option, Some, None}
 use Rattle.rate.specs.declared.answer.Numbers.{Numbers}
 use Rattle.rate.specs.Answer.{answered}
 use Rattle.rate.specs.Decision.{Verdict, bare}
 use Rattle.rate.specs.Account.{guard, Settled, kept, spent, settled}
-use Rattle.table.specs.declared.search.Place.{Place}
-use Rattle.table.specs.declared.search.Place.TheVariants.{Nowhere, At}
 use Rattle.table.specs.Request.{Query, Request}
 use Rattle.table.specs.Checks.{slots_ok, Gate, gate_of, Toll, toll_of, query_check, request_check}
 use Rattle.table.specs.Rule.{Rule}
@@ -33,9 +31,9 @@ ruled i (kept v) = keep v
 ruled i (spent v held) = write v i held
 
 -- a newcomer starts afresh in a free slot
-unfoldable pub newcomer : {P R : Type 0} → Rule P R → Query P → Place → Slot R
-newcomer U q Nowhere = none
-newcomer U q (At i) = at i (U.fresh q.setting q.moment)
+unfoldable pub newcomer : {P R : Type 0} → Rule P R → Query P → Option ℕ → Slot R
+newcomer U q None = none
+newcomer U q (Some i) = at i (U.fresh q.setting q.moment)
 
 -- without a slot of its own and a free one the answer is 9
 unfoldable pub judge_in : {P R : Type 0} → Rule P R → Request P → Slot R → Ruling R
@@ -57,9 +55,9 @@ module _ {C P R : Type 0} (U : Rule P R) (K : Columns C R) where
   toll r c = toll_of (gate r.query c) (U.most r.query.setting) r.cost
 
   -- the own slot, or else a newcomer's
-  unfoldable pub slot_from : Query P → C → Place → Slot R
-  slot_from q c Nowhere = newcomer U q (lowest_free U K q.setting q.moment c)
-  slot_from q c (At i) = at i (K.row c i)
+  unfoldable pub slot_from : Query P → C → Option ℕ → Slot R
+  slot_from q c None = newcomer U q (lowest_free U K q.setting q.moment c)
+  slot_from q c (Some i) = at i (K.row c i)
 
   unfoldable pub slot_for : Query P → C → Slot R
   slot_for q c = slot_from q c (own K q.subscriber c)
@@ -73,9 +71,9 @@ module _ {C P R : Type 0} (U : Rule P R) (K : Columns C R) where
   acquire r c = commit K r.query c (judge_call r c)
 
   -- the own record; without a slot the bucket is full
-  unfoldable pub held_at : Query P → C → Place → R
-  held_at q c Nowhere = U.fresh q.setting q.moment
-  held_at q c (At i) = K.row c i
+  unfoldable pub held_at : Query P → C → Option ℕ → R
+  held_at q c None = U.fresh q.setting q.moment
+  held_at q c (Some i) = K.row c i
 
   unfoldable pub held : Query P → C → R
   held q c = held_at q c (own K q.subscriber c)

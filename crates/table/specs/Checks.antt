@@ -1,11 +1,10 @@
 -- Document 01, 'When the gate says no', checks 1 to 6, and document 02, Item 6, number 11 just after 3: the number of the first
 -- check that applies, or 0.
-use Rattle.std.specs.Prelude.{ℕ, Bool, cond, not, ◌&&◌, eqb, leb, ltb}
+use Rattle.std.specs.Prelude.{ℕ, Bool, cond, not, ◌&&◌, eqb, leb, ltb, Result, Ok, Err}
 use Rattle.ticks.specs.Grains.{on_clock}
+use Rattle.rate.specs.declared.answer.Reason.{Reason}
 use Rattle.rate.specs.Answer.{reason_number}
 use Rattle.rate.specs.Account.{guard}
-use Rattle.table.specs.declared.check.Check.{Check}
-use Rattle.table.specs.declared.check.Check.TheVariants.{Passed, Failed}
 
 -- the table of limits: the most slots (document 01's seats); the least is 1
 abbrev pub most_slots : ℕ
@@ -54,6 +53,6 @@ unfoldable pub request_check : Toll → ℕ
 request_check t = guard (λ n. n) (query_check t.gate) (cost_check t)
 
 -- the number of what the checks answer
-unfoldable pub check_number : Check → ℕ
-check_number Passed = 0
-check_number (Failed reason) = reason_number reason
+unfoldable pub check_number : Result (Unit {0}) Reason → ℕ
+check_number (Ok tt) = 0
+check_number (Err reason) = reason_number reason

@@ -1,10 +1,9 @@
 -- The laws of the table: what its checks, its searches and its calls come to, for any rule and any columns; proofs/Laws shows
 -- them. What a host may rely on in any call follows from these, and stands in specs/Laws of `law_calls`.
-use Rattle.std.specs.Prelude.{ℕ, ◌≤◌, ◌≡◌, Bool, true, false, eqb, ltb}
+use Rattle.std.specs.Prelude.{ℕ, ◌≤◌, ◌≡◌, Bool, true, false, eqb, ltb, Some, None}
 use Rattle.ticks.specs.Grains.{on_clock}
 use Rattle.rate.specs.Answer.{answered}
 use Rattle.rate.specs.Decision.{bare}
-use Rattle.table.specs.declared.search.Place.TheVariants.{Nowhere, At}
 use Rattle.table.specs.Request.{Request}
 use Rattle.table.specs.Checks.{slots_ok, Gate, Toll, query_check, request_check}
 use Rattle.table.specs.Rule.{Rule}
@@ -40,8 +39,8 @@ pub record RequestNumbers (t : Toll) : Type 0 where
 
 -- a search finds the lowest place that passes a test, or none does
 pub record SearchLaws (test : ℕ → Bool) (n : ℕ) : Type 0 where
-  pub seek_at : (i : ℕ) → Lowest test n i → seek test n ≡ At i
-  pub seek_nowhere : NoneBelow test n → seek test n ≡ Nowhere
+  pub seek_at : (i : ℕ) → Lowest test n i → seek test n ≡ Some i
+  pub seek_nowhere : NoneBelow test n → seek test n ≡ None
 
 -- what an acquire answers in each case, and what it leaves where it is not judged
 pub record AcquireCases {C P R : Type 0} (U : Rule P R) (K : Columns C R) (r : Request P) (c : C) : Type 0 where

@@ -1,6 +1,7 @@
 -- Document 02, Item 3: beside any columns one more, which keeps the number of each slot's plan.
 use Rattle.std.specs.Prelude.{ℕ, List, length, get_or, set, replicate}
-use Rattle.plans.specs.Plans.{Planned, planned_of}
+use Rattle.plans.specs.declared.planned.Planned.{Planned}
+use Rattle.plans.specs.Plans.{planned_of}
 use Rattle.table.specs.Slots.{Columns, common}
 
 pub record Numbered (C : Type 0) : Type 0 where

@@ -1,7 +1,5 @@
 -- Document 01, 'Seats': a table is a set of columns of equal length; each place of it is a slot (document 01's seat).
-use Rattle.std.specs.Prelude.{◌≡◌, ℕ, zero, suc, ◌≤◌, ◌<◌, Bool, false, cond, ◌||◌, List, eqb, leb, get_or}
-use Rattle.table.specs.declared.search.Place.{Place}
-use Rattle.table.specs.declared.search.Place.TheVariants.{Nowhere, At}
+use Rattle.std.specs.Prelude.{◌≡◌, ℕ, zero, suc, ◌≤◌, ◌<◌, Bool, false, cond, ◌||◌, List, eqb, leb, get_or, Option, Some, None}
 use Rattle.table.specs.Rule.{Rule}
 
 -- the length that two columns have in common; 0, which no table has, if they are unequal
@@ -24,12 +22,12 @@ pub record Columns (C R : Type 0) : Type 0 where
   pub zeros : C → C
 
 -- the lowest of the places from one on, so many, that passes a test
-unfoldable pub seek_from : (ℕ → Bool) → ℕ → ℕ → Place
-seek_from test zero i = Nowhere
-seek_from test (suc more) i = cond (test i) (At i) (seek_from test more (suc i))
+unfoldable pub seek_from : (ℕ → Bool) → ℕ → ℕ → Option ℕ
+seek_from test zero i = None
+seek_from test (suc more) i = cond (test i) (Some i) (seek_from test more (suc i))
 
 -- the lowest place below n that passes a test
-unfoldable pub seek : (ℕ → Bool) → ℕ → Place
+unfoldable pub seek : (ℕ → Bool) → ℕ → Option ℕ
 seek test n = seek_from test n 0
 
 -- none of the places from one up to another passes a test
@@ -49,7 +47,7 @@ unfoldable pub at_most : List ℕ → ℕ → ℕ → Bool
 at_most column most i = leb (get_or column i 0) most
 
 -- a subscriber's slot is the lowest that carries its number
-unfoldable pub own : {C R : Type 0} → Columns C R → ℕ → C → Place
+unfoldable pub own : {C R : Type 0} → Columns C R → ℕ → C → Option ℕ
 own K subscriber c = seek (carries (K.ids c) subscriber) (K.slots c)
 
 module _ {C P R : Type 0} (U : Rule P R) (K : Columns C R) where
@@ -58,5 +56,5 @@ module _ {C P R : Type 0} (U : Rule P R) (K : Columns C R) where
   vacant p at c i = carries (K.ids c) 0 i || U.free p at (K.row c i)
 
   -- a subscriber without a slot gets the lowest free one
-  unfoldable pub lowest_free : P → ℕ → C → Place
+  unfoldable pub lowest_free : P → ℕ → C → Option ℕ
   lowest_free p at c = seek (vacant p at c) (K.slots c)

@@ -1,19 +1,16 @@
 -- The columns of the GCRA engine keep what is written.
 -- Assumes nothing.
-use mathlib.Core.Path.{◌≡◌, refl, sym, ap, ap₂, ◌∙◌}
+use mathlib.Core.Path.{◌≡◌, refl, sym, ap₂, ◌∙◌}
 use Prim.Native.Nat.{ℕ, ◌≤◌, ◌<◌}
 use native.Mathlib.Omega.{arith}
 use lib.ListN.{length, replicate, length-set, length-replicate}
 use lib.Seq.{get_or-set_same, get_or-set_other}
 use Rattle.ticks.specs.declared.units.Ticks.{Ticks}
 use Rattle.table.specs.Slots.{common}
-use Rattle.table.specs.Checks.{Gate}
-use Rattle.table.specs.Passed.{Asked}
 use Rattle.table.specs.Stored.{Stored}
-use Rattle.table.proofs.Checks.{slots_least}
 use Rattle.table.proofs.Numbered.{numbered_stored}
-use Rattle.table.proofs.Slots.{common_equal, common_same}
-use Rattle.table_gcra.specs.Table.{Records, records, Table, columns, Even}
+use Rattle.table.proofs.Slots.{common_equal, common_same, common_least}
+use Rattle.table_gcra.specs.Table.{Records, records, Table, columns}
 
 -- a cleared table carries nobody
 ids_zeros : (t : Records) → records.ids (records.zeros t) ≡ replicate (length t.ids) 0
@@ -55,6 +52,19 @@ records_stored =
 pub gcra_stored : Stored columns
 gcra_stored = numbered_stored records_stored
 
+-- there are no more slots than any column is long
+pub record Least (t : Table) : Type 0 where
+  pub ids : columns.slots t ≤ length t.table.ids
+  pub numbers : columns.slots t ≤ length t.numbers
+  pub tats : columns.slots t ≤ length t.table.tats
+
+pub least : (t : Table) → Least t
+unfolding records
+least t =
+    let inner = common_least (length t.table.ids) (length t.table.tats) in
+    let outer = common_least (common (length t.table.ids) (length t.table.tats)) (length t.numbers) in
+    record { ids = omega (arith, inner, outer); numbers = outer.1; tats = omega (arith, inner, outer) }
+
 -- columns that are a table are equally long
 pub record Equal (t : Table) : Type 0 where
   pub ids : length t.table.ids ≡ columns.slots t
@@ -71,19 +81,10 @@ equal t h =
     let both : first ≡ length t.table.ids = common_same (length t.table.ids) (length t.table.tats) inner in
     record { ids = omega arith; numbers = omega arith; tats = omega arith }
 
-pub even : (t : Table) (g : Gate) → g.slots ≡ columns.slots t → Asked g → Even t.table.ids t.numbers t.table.tats
-even t g count asked =
-    let e = equal t (omega (arith, count, slots_least g.slots asked.table)) in
-    record { to_numbers = omega (arith, e.ids, e.numbers); to_tats = omega (arith, e.ids, e.tats) }
-
-pub all_slots : (t : Table) → Even t.table.ids t.numbers t.table.tats → columns.slots t ≡ length t.table.ids
+-- equal columns have as many slots
+pub all_slots :
+    (t : Table) → length t.table.ids ≡ length t.numbers → length t.table.ids ≡ length t.table.tats → columns.slots t ≡ length t.table.ids
 unfolding records
-all_slots t e =
-    let two = common_same (length t.table.ids) (length t.table.tats) e.to_tats in
-    common_same _ (length t.numbers) (two ∙ e.to_numbers) ∙ two
-
--- the slots as the code counts them
-pub counted :
-    (t : Table) {a b : ℕ} → a ≡ common (length t.table.ids) (length t.table.tats) → b ≡ common a (length t.numbers) → b ≡ columns.slots t
-unfolding records
-counted t e f = f ∙ ap (λ (n : ℕ). common n (length t.numbers)) e
+all_slots t to_numbers to_tats =
+    let two = common_same (length t.table.ids) (length t.table.tats) to_tats in
+    common_same _ (length t.numbers) (two ∙ to_numbers) ∙ two

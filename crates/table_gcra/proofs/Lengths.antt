@@ -11,7 +11,8 @@ use borrow.Author.Tests.{eqb-true}
 use Rattle.ticks.specs.declared.units.Ticks.{Ticks}
 use Rattle.rate.specs.Answer.{answered}
 use Rattle.rate.specs.Decision.{bare}
-use Rattle.plans.specs.Plans.{Plans, Planned}
+use Rattle.plans.specs.declared.planned.Planned.{Planned}
+use Rattle.plans.specs.Plans.{Plans}
 use Rattle.table.specs.Request.{Request}
 use Rattle.table.specs.Checks.{slots_ok}
 use Rattle.table.proofs.Cases.{clear_done, clear_unfit}
@@ -22,7 +23,7 @@ use Rattle.table_gcra.proofs.Columns.{all_slots}
 -- a clear of so many slots
 module _ (ids numbers tats : List ℕ) (newest : ℕ) {slots : ℕ} (i : length ids ≡ slots) (k : length numbers ≡ slots) (j : length tats ≡ slots) where
   slots_are : columns.slots (table_of ids numbers tats newest) ≡ slots
-  slots_are = all_slots (table_of ids numbers tats newest) (record { to_numbers = i ∙ sym k; to_tats = i ∙ sym j }) ∙ i
+  slots_are = all_slots (table_of ids numbers tats newest) (i ∙ sym k) (i ∙ sym j) ∙ i
 
   zeros_are : columns.zeros (table_of ids numbers tats newest) ≡ table_of (replicate slots 0) (replicate slots 0) (replicate slots 0) 0
   unfolding records

@@ -2,7 +2,8 @@
 -- is said of both engines at once (`law_calls`, specs/Laws), since these columns keep what is written (`Stored`, table).
 use Rattle.std.specs.Prelude.{ℕ, ◌≡◌, [], ◌∷◌, length, get_or, set, replicate}
 use Rattle.ticks.specs.declared.units.Ticks.{Ticks}
-use Rattle.plans.specs.Plans.{Planned, planned_of}
+use Rattle.plans.specs.declared.planned.Planned.{Planned}
+use Rattle.plans.specs.Plans.{planned_of}
 use Rattle.table.specs.Slots.{common}
 use Rattle.table.specs.Stored.{Stored}
 use Rattle.table.specs.Worked.{examples, expected}

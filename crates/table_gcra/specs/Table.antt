@@ -1,9 +1,9 @@
 -- The GCRA engine's table (document 01, 'Seats'): the subscribers' numbers, the TATs, in ticks, the newest moment (document 02,
 -- Item 6), and the numbers of the plans (Item 3). Its calls are the table's, by the rule of GCRA.
-use Rattle.std.specs.Prelude.{ℕ, ◌≡◌, List, length, get_or, set, replicate}
+use Rattle.std.specs.Prelude.{◌≡◌, ℕ, List, length, get_or, set, replicate}
 use Rattle.ticks.specs.declared.units.Ticks.{Ticks}
-use Rattle.rate.specs.Answer.{verdict_of}
-use Rattle.plans.specs.Plans.{Plans, Planned, planned_of, planned}
+use Rattle.plans.specs.declared.planned.Planned.{Planned}
+use Rattle.plans.specs.Plans.{Plans, planned}
 use Rattle.rule_gcra.specs.Gcra.{gcra}
 use Rattle.table.specs.Request.{Query, Request}
 use Rattle.table.specs.Rule.{Rule, rule_of}
@@ -11,8 +11,8 @@ use Rattle.table.specs.Slots.{Columns, common}
 use Rattle.table.specs.Numbered.{Numbered, numbered_of, numbered}
 use Rattle.table.specs.Calls as calls
 use Rattle.table.specs.Calls.{Step}
-use Rattle.table_gcra.specs.declared.ruling.Ruling as ruling
-use Rattle.table_gcra.specs.declared.slot.Slot as slot
+use Rattle.table_gcra.specs.declared.Table as writes
+use Rattle.table_gcra.specs.declared.lent.Columns as reads
 
 -- what is stored but for the numbers of the plans
 pub record Records : Type 0 where
@@ -41,9 +41,20 @@ Table = Numbered Records
 abbrev pub table_of : List ℕ → List ℕ → List ℕ → ℕ → Table
 table_of ids numbers tats newest = numbered_of (records_of ids tats newest) numbers
 
--- the columns alone: no search reads the newest moment
-abbrev pub columns_of : List ℕ → List ℕ → List ℕ → Table
-columns_of ids numbers tats = table_of ids numbers tats 0
+-- .. as it is lent to be read
+abbrev pub lent_of : reads.Columns → Table
+lent_of c = table_of c.ids.now c.numbers.now c.tats.now c.newest.now
+
+-- .. and to be written
+abbrev pub table_in : writes.Table → Table
+table_in t = table_of t.ids.now t.numbers.now t.tats.now t.newest.now
+
+-- what is lent stays so: the same columns, and the same newest moment
+pub record SameLoan (t t' : writes.Table) : Type 0 where
+  pub same_ids : t'.ids.ghost_name ≡ t.ids.ghost_name
+  pub same_numbers : t'.numbers.ghost_name ≡ t.numbers.ghost_name
+  pub same_tats : t'.tats.ghost_name ≡ t.tats.ghost_name
+  pub same_newest : t'.newest.ghost_name ≡ t.newest.ghost_name
 
 abbrev pub columns : Columns Table (Planned Ticks)
 columns = numbered records
@@ -63,18 +74,3 @@ peek = calls.peek rule columns
 -- clear
 abbrev pub clear : Table → Step Table
 clear = calls.clear columns
-
--- what the searches require: the columns are equally long
-pub record Even (ids numbers tats : List ℕ) : Type 0 where
-  pub to_numbers : length ids ≡ length numbers
-  pub to_tats : length ids ≡ length tats
-
--- what the inner functions answer, as the definitions have it
-unfoldable pub slot_of : slot.Slot → calls.Slot (Planned Ticks)
-slot_of slot.TheVariants.None = calls.none
-slot_of (slot.TheVariants.At place number tat) = calls.at place (planned_of number tat)
-
--- .. what is written is of the plan asked for
-unfoldable pub ruling_of : ℕ → ruling.Ruling → calls.Ruling (Planned Ticks)
-ruling_of plan (ruling.TheVariants.Keep outcome) = calls.keep (verdict_of outcome)
-ruling_of plan (ruling.TheVariants.Write outcome place tat) = calls.write (verdict_of outcome) place (planned_of plan tat)

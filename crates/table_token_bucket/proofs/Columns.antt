@@ -1,20 +1,16 @@
 -- The columns of the token bucket engine keep what is written.
 -- Assumes nothing.
-use mathlib.Core.Path.{◌≡◌, refl, ap, ap₂, ◌∙◌}
-use mathlib.Core.List.{List}
+use mathlib.Core.Path.{◌≡◌, refl, ap₂, ◌∙◌}
 use Prim.Native.Nat.{ℕ, ◌≤◌, ◌<◌}
 use native.Mathlib.Omega.{arith}
 use lib.ListN.{length, replicate, length-set, length-replicate}
 use lib.Seq.{get_or-set_same, get_or-set_other}
 use Rattle.rule_token_bucket.specs.declared.Bucket.{Bucket}
-use Rattle.table.specs.Checks.{Gate}
 use Rattle.table.specs.Slots.{common}
-use Rattle.table.specs.Passed.{Asked}
 use Rattle.table.specs.Stored.{Stored}
-use Rattle.table.proofs.Checks.{slots_least}
 use Rattle.table.proofs.Numbered.{numbered_equal, numbered_stored}
-use Rattle.table.proofs.Slots.{common_equal, common_same}
-use Rattle.table_token_bucket.specs.Table.{Records, records, Table, columns, Even, Paired, Within}
+use Rattle.table.proofs.Slots.{common_equal, common_same, common_least}
+use Rattle.table_token_bucket.specs.Table.{Records, records, Table, columns}
 
 -- a cleared table carries nobody
 ids_zeros : (t : Records) → records.ids (records.zeros t) ≡ replicate (length t.ids) 0
@@ -74,6 +70,27 @@ records_stored =
 pub token_bucket_stored : Stored columns
 token_bucket_stored = numbered_stored records_stored
 
+-- there are no more slots than any column is long
+pub record Least (t : Table) : Type 0 where
+  pub ids : columns.slots t ≤ length t.table.ids
+  pub numbers : columns.slots t ≤ length t.numbers
+  pub levels : columns.slots t ≤ length t.table.levels
+  pub lasts : columns.slots t ≤ length t.table.lasts
+
+pub least : (t : Table) → Least t
+unfolding records
+least t =
+    let first = common (length t.table.ids) (length t.table.levels) in
+    let inner = common_least (length t.table.ids) (length t.table.levels) in
+    let both = common_least first (length t.table.lasts) in
+    let outer = common_least (common first (length t.table.lasts)) (length t.numbers) in
+    record {
+      ids = omega (arith, inner, both, outer);
+      numbers = outer.1;
+      levels = omega (arith, inner, both, outer);
+      lasts = omega (arith, both, outer);
+    }
+
 -- columns that are a table are equally long
 pub record Equal (t : Table) : Type 0 where
   pub ids : length t.table.ids ≡ columns.slots t
@@ -86,34 +103,3 @@ equal t h =
     let beside = numbered_equal records_stored t h in
     let e = records_equal t.table (omega (arith, beside.0)) in
     record { ids = e.ids ∙ beside.0; numbers = beside.1; levels = e.levels ∙ beside.0; lasts = e.lasts ∙ beside.0 }
-
-pub even : (t : Table) (g : Gate) → g.slots ≡ columns.slots t → Asked g → Even t.table.ids t.numbers t.table.levels t.table.lasts
-even t g count asked =
-    let e = equal t (omega (arith, count, slots_least g.slots asked.table)) in
-    record {
-      to_numbers = omega (arith, e.ids, e.numbers);
-      to_levels = omega (arith, e.ids, e.levels);
-      to_lasts = omega (arith, e.ids, e.lasts);
-    }
-
-pub all_slots : (t : Table) → Even t.table.ids t.numbers t.table.levels t.table.lasts → columns.slots t ≡ length t.table.ids
-unfolding records
-all_slots t e =
-    let two = common_same (length t.table.ids) (length t.table.levels) e.to_levels in
-    let three = common_same _ (length t.table.lasts) (two ∙ e.to_lasts) ∙ two in
-    common_same _ (length t.numbers) (three ∙ e.to_numbers) ∙ three
-
--- a place among the ids is within the other columns
-pub within : {ids levels lasts : List ℕ} {i : ℕ} → Paired ids levels lasts → i < length ids → Within levels lasts i
-within e h = record { in_levels = omega (arith, e.to_levels); in_lasts = omega (arith, e.to_lasts) }
-
-pub paired : {ids numbers levels lasts : List ℕ} → Even ids numbers levels lasts → Paired ids levels lasts
-paired e = record { to_levels = e.to_levels; to_lasts = e.to_lasts }
-
--- the slots as the code counts them
-pub counted :
-    (t : Table) {a b n : ℕ} → a ≡ common (length t.table.ids) (length t.table.levels) → b ≡ common a (length t.table.lasts) →
-    n ≡ common b (length t.numbers) → n ≡ columns.slots t
-unfolding records
-counted t first both all =
-    all ∙ ap (λ (n : ℕ). common n (length t.numbers)) (both ∙ ap (λ (n : ℕ). common n (length t.table.lasts)) first)

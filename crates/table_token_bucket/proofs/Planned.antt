@@ -1,25 +1,17 @@
--- The records under the plans lent: a fresh one, and blocks in which no slot is free, since none is empty and no record is free by any
--- of the plans.
+-- Blocks in which no slot is free under the plans lent, since none is empty and no record is free by any of the plans.
 -- Assumes nothing.
-use mathlib.Core.Path.{◌≡◌, refl, ap, ap₂, ◌∙◌}
+use mathlib.Core.Path.{◌≡◌, refl, ap, ap₂}
 use mathlib.Core.Bool.{Bool, true, false, ◌&&◌}
 use mathlib.Core.List.{List}
 use Prim.Native.Nat.{ℕ, ◌<◌}
 use lib.ListN.{length, get_or}
 use Rattle.ticks.specs.declared.plan.Plan.{Plan}
-use Rattle.plans.specs.Plans.{Plans, plans_of, planned_of, known, plan_at, asked, Lent, Looser}
+use Rattle.plans.specs.Plans.{plans_of, known, plan_at, asked, Lent, Looser}
 use Rattle.plans.proofs.Lent.{lent_below}
-use Rattle.rule_token_bucket.specs.declared.Bucket.{Bucket}
 use Rattle.rule_token_bucket.specs.TokenBucket.{token_bucket}
 use Rattle.table.specs.Slots.{carries, vacant, NoneFrom}
 use Rattle.table.proofs.Slots.{none_vacant}
-use Rattle.table_token_bucket.specs.Table.{bucket_at, records, columns_of, columns, rule, NoneFree}
-
--- a fresh record is of the plan asked for
-pub fresh_is :
-    (p : Plans) (at : ℕ) {plan : Plan} {b : Bucket} → b ≡ token_bucket.fresh plan at → plan ≡ asked p →
-    planned_of p.number b ≡ rule.fresh p at
-fresh_is p at e is = ap (λ (b : Bucket). planned_of p.number b) (e ∙ ap (λ (q : Plan). token_bucket.fresh q at) is)
+use Rattle.table_token_bucket.specs.Table.{bucket_at, records, Table, columns, rule, NoneFree}
 
 -- what is free by none of the plans that are lent is not free, whatever its plan is
 free_by_none :
@@ -32,12 +24,12 @@ free_by_none ps number free none = by (known ps number) refl
     by false e = ap (λ (t : Bool). t && free (plan_at ps number)) e
 
 pub block_taken :
-    (ps : List Plan) (asked at : ℕ) (ids numbers levels lasts : List ℕ) {loosest : Plan} {from to : ℕ} → Lent ps →
-    ((k : ℕ) → k < length ps → Looser loosest (plan_at ps k)) → NoneFrom (carries ids 0) from to →
-    NoneFree loosest at levels lasts from to →
-    NoneFrom (vacant rule columns (plans_of ps asked) at (columns_of ids numbers levels lasts)) from to
+    (ps : List Plan) (asked at : ℕ) (t : Table) {loosest : Plan} {from to : ℕ} → Lent ps →
+    ((k : ℕ) → k < length ps → Looser loosest (plan_at ps k)) → NoneFrom (carries t.table.ids 0) from to →
+    NoneFree loosest at t.table.levels t.table.lasts from to →
+    NoneFrom (vacant rule columns (plans_of ps asked) at t) from to
 unfolding records
-block_taken ps asked at ids numbers levels lasts lent looser held owing =
-    none_vacant rule columns (plans_of ps asked) at (columns_of ids numbers levels lasts) _ _ held (λ j above below.
-    free_by_none ps (get_or numbers j 0) (λ q. token_bucket.free q at (bucket_at levels lasts j))
+block_taken ps asked at t lent looser held owing =
+    none_vacant rule columns (plans_of ps asked) at t _ _ held (λ j above below.
+    free_by_none ps (get_or t.numbers j 0) (λ q. token_bucket.free q at (bucket_at t.table.levels t.table.lasts j))
     (λ k h. owing (plan_at ps k) (lent.each k h) (looser k h) j above below))

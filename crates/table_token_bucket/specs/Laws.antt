@@ -1,7 +1,8 @@
 -- The laws of this table: which column holds what, number by number, and document 01's examples. What a host may rely on in any call
 -- is said of both engines at once (`law_calls`, specs/Laws), since these columns keep what is written (`Stored`, table).
 use Rattle.std.specs.Prelude.{ℕ, ◌≡◌, [], ◌∷◌, length, get_or, set, replicate}
-use Rattle.plans.specs.Plans.{Planned, planned_of}
+use Rattle.plans.specs.declared.planned.Planned.{Planned}
+use Rattle.plans.specs.Plans.{planned_of}
 use Rattle.rule_token_bucket.specs.declared.Bucket.{Bucket}
 use Rattle.table.specs.Slots.{common}
 use Rattle.table.specs.Stored.{Stored}

@@ -1,11 +1,11 @@
 -- The token bucket engine's table (document 01, 'Seats'): the subscribers' numbers, the levels, in ticks, the moments of the
 -- last admission, in milliseconds, the newest moment (document 02, Item 6), and the numbers of the plans (Item 3). Its calls are the
 -- table's, by the rule of the token bucket.
-use Rattle.std.specs.Prelude.{ℕ, ◌<◌, ◌≡◌, List, length, get_or, set, replicate}
+use Rattle.std.specs.Prelude.{◌≡◌, ℕ, List, length, get_or, set, replicate}
 use Rattle.ticks.specs.declared.plan.Plan.{Plan}
 use Rattle.ticks.specs.Grains.{WithinLimits}
-use Rattle.rate.specs.Answer.{verdict_of}
-use Rattle.plans.specs.Plans.{Plans, Planned, planned_of, planned, Looser}
+use Rattle.plans.specs.declared.planned.Planned.{Planned}
+use Rattle.plans.specs.Plans.{Plans, planned, Looser}
 use Rattle.rule_token_bucket.specs.declared.Bucket.{Bucket}
 use Rattle.rule_token_bucket.specs.TokenBucket.{token_bucket}
 use Rattle.table.specs.Request.{Query, Request}
@@ -14,8 +14,8 @@ use Rattle.table.specs.Slots.{Columns, common, NoneFrom}
 use Rattle.table.specs.Numbered.{Numbered, numbered_of, numbered}
 use Rattle.table.specs.Calls as calls
 use Rattle.table.specs.Calls.{Step}
-use Rattle.table_token_bucket.specs.declared.ruling.Ruling as ruling
-use Rattle.table_token_bucket.specs.declared.slot.Slot as slot
+use Rattle.table_token_bucket.specs.declared.Table as writes
+use Rattle.table_token_bucket.specs.declared.lent.Columns as reads
 
 -- what is stored but for the numbers of the plans
 pub record Records : Type 0 where
@@ -50,9 +50,21 @@ Table = Numbered Records
 abbrev pub table_of : List ℕ → List ℕ → List ℕ → List ℕ → ℕ → Table
 table_of ids numbers levels lasts newest = numbered_of (records_of ids levels lasts newest) numbers
 
--- the columns alone: no search reads the newest moment
-abbrev pub columns_of : List ℕ → List ℕ → List ℕ → List ℕ → Table
-columns_of ids numbers levels lasts = table_of ids numbers levels lasts 0
+-- .. as it is lent to be read
+abbrev pub lent_of : reads.Columns → Table
+lent_of c = table_of c.ids.now c.numbers.now c.levels.now c.lasts.now c.newest.now
+
+-- .. and to be written
+abbrev pub table_in : writes.Table → Table
+table_in t = table_of t.ids.now t.numbers.now t.levels.now t.lasts.now t.newest.now
+
+-- what is lent stays so: the same columns, and the same newest moment
+pub record SameLoan (t t' : writes.Table) : Type 0 where
+  pub same_ids : t'.ids.ghost_name ≡ t.ids.ghost_name
+  pub same_numbers : t'.numbers.ghost_name ≡ t.numbers.ghost_name
+  pub same_levels : t'.levels.ghost_name ≡ t.levels.ghost_name
+  pub same_lasts : t'.lasts.ghost_name ≡ t.lasts.ghost_name
+  pub same_newest : t'.newest.ghost_name ≡ t.newest.ghost_name
 
 abbrev pub columns : Columns Table (Planned Bucket)
 columns = numbered records
@@ -72,32 +84,6 @@ peek = calls.peek rule columns
 -- clear
 abbrev pub clear : Table → Step Table
 clear = calls.clear columns
-
--- what the inner functions answer, as the definitions have it
-unfoldable pub slot_of : slot.Slot → calls.Slot (Planned Bucket)
-slot_of slot.TheVariants.None = calls.none
-slot_of (slot.TheVariants.At place number bucket) = calls.at place (planned_of number bucket)
-
--- .. what is written is of the plan asked for
-unfoldable pub ruling_of : ℕ → ruling.Ruling → calls.Ruling (Planned Bucket)
-ruling_of plan (ruling.TheVariants.Keep outcome) = calls.keep (verdict_of outcome)
-ruling_of plan (ruling.TheVariants.Write outcome place bucket) = calls.write (verdict_of outcome) place (planned_of plan bucket)
-
--- what the searches require: the columns are equally long
-pub record Even (ids numbers levels lasts : List ℕ) : Type 0 where
-  pub to_numbers : length ids ≡ length numbers
-  pub to_levels : length ids ≡ length levels
-  pub to_lasts : length ids ≡ length lasts
-
--- .. and what the tests of blocks require, which read no numbers of plans
-pub record Paired (ids levels lasts : List ℕ) : Type 0 where
-  pub to_levels : length ids ≡ length levels
-  pub to_lasts : length ids ≡ length lasts
-
--- what reading a record requires: its place is within both columns
-pub record Within (levels lasts : List ℕ) (place : ℕ) : Type 0 where
-  pub in_levels : place < length levels
-  pub in_lasts : place < length lasts
 
 -- no record from one place up to another is free by a plan, or by one that is no looser
 abbrev pub NoneFree : Plan → ℕ → List ℕ → List ℕ → ℕ → ℕ → Type 0

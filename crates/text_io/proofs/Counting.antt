@@ -34,7 +34,8 @@ at_the_start text out h =
 
 pub written :
     (text out : List ℕ) {out' : List ℕ} {n sent sent' : ℕ} → 0 + length text ≤ length out → n ≡ 0 + length text →
-    out' ≡ sets out 0 text → Counted sent n sent' → Written text out' sent sent'
-written text out {n = n} h e f counted =
+    out' ≡ sets out 0 text → Counted sent (length (take n out')) sent' → Written text out' sent sent'
+written text out {out'} {n} h e f counted =
     let whole : n ≡ length text = omega arith in
-    record { begins = ap (λ (l : List ℕ). take (length text) l) f ∙ at_the_start text out h; sent_is = counted_as whole counted }
+    let begins = ap (λ (l : List ℕ). take (length text) l) f ∙ at_the_start text out h in
+    record { begins = begins; sent_is = counted_as (ap (λ (k : ℕ). length (take k out')) whole ∙ ap (λ (l : List ℕ). length l) begins) counted }

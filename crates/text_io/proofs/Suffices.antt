@@ -4,8 +4,7 @@ use Rattle.std.proofs.Common.{◌≡◌, ℕ, ◌+◌, ◌*◌, ◌≤◌, List,
 use Rattle.text_protocol.specs.Reply.{most_reply}
 use Rattle.text_session.specs.Stream.{State, said}
 use Rattle.text_session.proofs.Lengths.{said_most, ending_most, endings_most}
-use Rattle.text_stream.specs.declared.Session.{Session}
-use Rattle.text_stream.specs.Running.{state_of, no_table, ending_of}
+use Rattle.text_stream.specs.Running.{Session, state_of, no_table, ending_of}
 
 -- what is said of some bytes fits, and what is said at the input's end
 pub answers_fit : (σ : State) (bytes : List ℕ) {n room : ℕ} → n ≡ 0 + length (said σ bytes) → most_reply * length bytes ≤ room → n ≤ room

@@ -1,107 +1,95 @@
 // The input read and the output written, a piece at a time: the header, and what is said of a piece.
-// What goes through `read` and `write` is counted in `taken` and `sent`, modulo 2^64, so that the promises can speak of it.
 #![tactic(auto)]
 
-ghost use Rattle.std.specs.Prelude.{◌≡◌, ◌≤◌, true, length, take};
-ghost use Rattle.table_gcra.specs.Table.{table_of};
-ghost use Rattle.text_session.specs.Session.{Lent};
-ghost use Rattle.text_stream.specs.Running.{Ready, state_of};
-ghost use Rattle.text_protocol.specs.Reply.{header};
-ghost use Rattle.text_io.specs.Piece.{Ample, Counted, Took, Written, Onwards};
+ghost use Rattle.std.specs.Prelude.{◌≡◌, ◌*◌, ◌≤◌, length, OnOk};
+ghost use Rattle.text_session.specs.Store.{table_in, SameLoan};
+ghost use Rattle.text_stream.specs.Running.{stream_state, session_of};
+ghost use Rattle.text_protocol.specs.Reply.{header, most_reply};
+ghost use Rattle.text_io.specs.Piece.{Counted, Took, Written, Onwards};
 
 use std::io::{Read, Write};
 use text_protocol::reply;
-use text_stream::Session;
+use text_session::store::Store;
+use text_stream::Stream;
 
-// What a read led to: so many bytes stand at the start of the piece, or the input has ended, or it cannot be read.
-#[derive(Clone, Copy)]
-pub enum Input {
-    Got(usize),
-    End,
-    Failed,
+// The input cannot be read.
+#[derive(Clone, Copy, Debug, PartialEq, Eq)]
+pub struct Unread;
+
+// What is said cannot be written.
+#[derive(Clone, Copy, Debug, PartialEq, Eq)]
+pub struct Unwritten;
+
+// A reader or a writer, and how many bytes went through it, modulo 2^64, so that the promises can speak of it.
+#[derive(Drop)]
+pub struct Counter<T> {
+    pub inner: T,
+    pub count: u64,
 }
 
-// What a piece led to: the session after it, or its answers cannot be written.
-#[derive(Clone, Copy)]
-pub enum Answered {
-    Next(Session),
-    Lost,
-}
-
-// Reads a piece and counts its bytes.
-#[tactic(auto, unfolding(crate::specs::Piece::Took))]
-pub fn read<R: Read>(input: &mut R, piece: &mut [u8], taken: &mut u64) -> Input
-    ensures { Took result piece.new taken.old taken.new }
-{
-    let Ok(n) = input.read(piece) else {
-        return Input::Failed;
-    };
-    *taken = taken.wrapping_add(n as u64);
-    if 0 < n {
-        return Input::Got(n);
+impl<T> Counter<T> {
+    // Before the first byte.
+    pub fn new(inner: T) -> Counter<T>
+        ensures inner { result.inner ≡ inner }
+        ensures none { result.count ≡ 0 }
+    {
+        Counter { inner, count: 0 }
     }
-    Input::End
 }
 
-// Writes the first bytes of the output and counts them, or says that they cannot be written.
-pub fn write<W: Write>(output: &mut W, out: &[u8], count: usize, sent: &mut u64) -> bool
-    requires { count ≤ length out.now }
-    ensures { result ≡ true → Counted sent.old count sent.new }
-{
-    let bytes = &out[..count];
-    if output.write_all(bytes).is_err() {
-        return false;
+impl<R: Read> Counter<R> {
+    // Reads a piece and counts its bytes: so many stand at its start, or the input has ended. `let .. else` drops the library's error, as
+    // `map_err(|_| Unread)?` would by a closure.
+    #[tactic(auto, unfolding(crate::specs::Piece::Took))]
+    pub fn read(&mut self, piece: &mut [u8]) -> Result<Option<usize>, Unread>
+        ensures { Took result piece.new self.old.count self.new.count }
+    {
+        let Ok(n) = self.inner.read(piece) else {
+            return Err(Unread);
+        };
+        self.count = self.count.wrapping_add(n as u64);
+        if 0 < n {
+            return Ok(Some(n));
+        }
+        Ok(None)
     }
-    *sent = sent.wrapping_add(bytes.len() as u64);
-    true
 }
 
-// The header written.
-pub fn begin<W: Write>(output: &mut W, out: &mut [u8], sent: &mut u64) -> bool
-    requires { length header ≤ length out.old }
-    ensures { result ≡ true → Written header out.new sent.old sent.new }
-{
-    let end = reply::put_header(out);
-    write(output, out, end, sent)
-}
-
-// The first bytes of a piece answered: fed to the session, and what is said of them written.
-pub fn answer<W: Write>(
-    output: &mut W,
-    session: Session,
-    piece: &[u8],
-    n: usize,
-    line: &mut [u8],
-    ids: &mut [u32],
-    numbers: &mut [u8],
-    tats: &mut [u64],
-    newest: &mut u64,
-    out: &mut [u8],
-    sent: &mut u64,
-) -> Answered
-    requires ready { Ready session line.old }
-    requires lent { Lent ids.old numbers.old tats.old }
-    requires ample { Ample piece.now out.old }
-    requires n_in_bounds { n ≤ length piece.now }
-    ensures { Onwards result (state_of session line.old
-        (table_of ids.old numbers.old tats.old newest.old)) (take n piece.now)
-        line.new (table_of ids.new numbers.new tats.new newest.new)
-        out.new sent.old sent.new }
-{
-    let fed = text_stream::feed(
-        session,
-        &piece[..n],
-        line,
-        ids,
-        numbers,
-        tats,
-        newest,
-        out,
-        0,
-    );
-    let next = fed.session;
-    if write(output, out, fed.at, sent) {
-        return Answered::Next(next);
+impl<W: Write> Counter<W> {
+    // Writes the bytes and counts them.
+    pub fn write(&mut self, bytes: &[u8]) -> Result<(), Unwritten>
+        ensures { OnOk result (Counted self.old.count (length bytes.now) self.new.count) }
+    {
+        if self.inner.write_all(bytes).is_err() {
+            return Err(Unwritten);
+        }
+        self.count = self.count.wrapping_add(bytes.len() as u64);
+        Ok(())
     }
-    Answered::Lost
+
+    // The header written.
+    pub fn begin(&mut self, out: &mut [u8]) -> Result<(), Unwritten>
+        requires { length header ≤ length out.old }
+        ensures { OnOk result (Written header out.new self.old.count self.new.count) }
+    {
+        let end = reply::put_header(out);
+        self.write(&out[..end])
+    }
+
+    // A piece answered: fed to the stream, and what is said of it written.
+    pub fn answer(
+        &mut self,
+        stream: &mut Stream,
+        piece: &[u8],
+        store: &mut Store<'_>,
+        out: &mut [u8],
+    ) -> Result<(), Unwritten>
+        requires { most_reply * length piece.now ≤ length out.old }
+        ensures loan { SameLoan store.old store.new }
+        ensures onwards { Onwards result (session_of stream.new) (stream_state stream.old (table_in store.old)) piece.now
+            stream.new.line (table_in store.new) out.new self.old.count self.new.count }
+    {
+        let said = stream.feed(piece, store, out, 0);
+        self.write(&out[..said])
+    }
 }

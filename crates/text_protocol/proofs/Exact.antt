@@ -9,6 +9,7 @@ use native.Mathlib.Omega.{arith}
 use lib.Dec.{leb}
 use lib.ListN.{get_or}
 use borrow.Author.Tests.{lt-leb, leb-true, leb-false}
+use Rattle.std.specs.Prelude.{Option, Some, None}
 use Rattle.ticks.specs.declared.plan.Plan as plan
 use Rattle.rate.specs.declared.answer.Numbers.{Numbers}
 use Rattle.text_tsv.specs.Text.{fields, same}
@@ -18,32 +19,32 @@ use Rattle.text_tsv.specs.Laws.{Without, joined, TabFree, Numeral, Front}
 use Rattle.text_tsv.proofs.Laws.{laws}
 use Rattle.text_tsv.proofs.Numerals.{numeral_without}
 use Rattle.text_protocol.specs.declared.command.Command.{Command}
-use Rattle.text_protocol.specs.declared.command.Command.TheVariants.{Plan, Ask, Unreadable}
+use Rattle.text_protocol.specs.declared.command.Command.TheVariants.{Plan, Ask}
 use Rattle.text_protocol.specs.Command.{most64, most32, ask_word, plan_word, given, then, last, ask_of, plan_of, worded, command}
 use Rattle.text_protocol.specs.Reply.{line}
 use Rattle.text_protocol.specs.Laws.{AskLine, PlanLine}
 
 -- what a line says is what it has
-abbrev Says : List ℕ → Command → Type 0
-Says bytes Unreadable = Unit
-Says bytes (Ask m s c) = AskLine bytes m s c
-Says bytes (Plan n p) = PlanLine bytes n p
+abbrev Says : List ℕ → Option Command → Type 0
+Says bytes None = Unit
+Says bytes (Some (Ask m s c)) = AskLine bytes m s c
+Says bytes (Some (Plan n p)) = PlanLine bytes n p
 
 -- a number off the front, and then the rest
 given_says :
-    (bytes : List ℕ) (most : ℕ) (fs : List (List ℕ)) (rest : ℕ → List (List ℕ) → Command) (t : Taken) → take_number most fs ≡ t →
+    (bytes : List ℕ) (most : ℕ) (fs : List (List ℕ)) (rest : ℕ → List (List ℕ) → Option Command) (t : Taken) → take_number most fs ≡ t →
     ((n : ℕ) (left : List (List ℕ)) → Front most fs n left → Says bytes (rest n left)) → Says bytes (given t rest)
 unfolding given
 given_says bytes most fs rest unreadable e k = tt
 given_says bytes most fs rest (number n left) e k = k n left ((laws.of_numbers.taken most fs n left).0 e)
 
 then_says :
-    (bytes : List ℕ) (most : ℕ) (fs : List (List ℕ)) (rest : ℕ → List (List ℕ) → Command) →
+    (bytes : List ℕ) (most : ℕ) (fs : List (List ℕ)) (rest : ℕ → List (List ℕ) → Option Command) →
     ((n : ℕ) (left : List (List ℕ)) → Front most fs n left → Says bytes (rest n left)) → Says bytes (then most fs rest)
 unfolding then
 then_says bytes most fs rest k = given_says bytes most fs rest (take_number most fs) refl k
 
-last_says : (bytes : List ℕ) (fs : List (List ℕ)) (c : Command) → (fs ≡ [] → Says bytes c) → Says bytes (last fs c)
+last_says : (bytes : List ℕ) (fs : List (List ℕ)) (c : Option Command) → (fs ≡ [] → Says bytes c) → Says bytes (last fs c)
 unfolding last
 last_says bytes [] c k = k refl
 last_says bytes (f ∷ fs) c k = tt
@@ -55,7 +56,7 @@ module _ (bytes : List ℕ) (fs : List (List ℕ)) where
       then_says bytes most64 fs _ λ m f1 a.
       then_says bytes most32 f1 _ λ s f2 b.
       then_says bytes most32 f2 _ λ c f3 d.
-      last_says bytes f3 (Ask m s c) λ z.
+      last_says bytes f3 (Some (Ask m s c)) λ z.
       record {
         first = a.text;
         second = b.text;
@@ -77,7 +78,7 @@ module _ (bytes : List ℕ) (fs : List (List ℕ)) where
       then_says bytes most32 f1 _ λ l f2 b.
       then_says bytes most32 f2 _ λ p f3 c.
       then_says bytes most32 f3 _ λ q f4 d.
-      last_says bytes f4 (Plan n (record { limit = l; period = p; burst = q })) λ z.
+      last_says bytes f4 (Some (Plan n (record { limit = l; period = p; burst = q }))) λ z.
       record {
         first = a.text;
         second = b.text;
@@ -102,7 +103,7 @@ worded_says bytes (word ∷ fs) e = by (same word ask_word) refl (same word plan
   where
     by :
         (a : Bool) → same word ask_word ≡ a → (p : Bool) → same word plan_word ≡ p →
-        Says bytes (cond a (ask_of fs) (cond p (plan_of fs) Unreadable))
+        Says bytes (cond a (ask_of fs) (cond p (plan_of fs) None))
     by true i p j =
         ask_says bytes fs (e ∙ ap (λ (w : List ℕ). w ∷ fs) ((laws.of_fields.same_exactly word ask_word).0 i))
     by false i true j =
@@ -113,10 +114,10 @@ command_says : (bytes : List ℕ) → Says bytes (command bytes)
 unfolding command
 command_says bytes = worded_says bytes (fields bytes) refl
 
-pub ask_only : (bytes : List ℕ) (m s c : ℕ) → command bytes ≡ Ask m s c → AskLine bytes m s c
+pub ask_only : (bytes : List ℕ) (m s c : ℕ) → command bytes ≡ Some (Ask m s c) → AskLine bytes m s c
 ask_only bytes m s c e = subst (Says bytes) e (command_says bytes)
 
-pub plan_only : (bytes : List ℕ) (n : ℕ) (p : plan.Plan) → command bytes ≡ Plan n p → PlanLine bytes n p
+pub plan_only : (bytes : List ℕ) (n : ℕ) (p : plan.Plan) → command bytes ≡ Some (Plan n p) → PlanLine bytes n p
 plan_only bytes n p e = subst (Says bytes) e (command_says bytes)
 
 -- and what it has it says
@@ -153,7 +154,7 @@ module _ (bytes : List ℕ) (m s c : ℕ) (x : AskLine bytes m s c) where
       ap (λ (l : List ℕ). fields l) x.is
       ∙ laws.of_fields.parted ask_word (x.first ∷ x.second ∷ x.third ∷ []) (ask_without, free)
 
-  pub ask_line : command bytes ≡ Ask m s c
+  pub ask_line : command bytes ≡ Some (Ask m s c)
   unfolding command worded ask_of then given last
   ask_line =
       let moment = takes most64 x.first (x.second ∷ x.third ∷ []) m x.moment.0 x.moment.1 in
@@ -170,7 +171,7 @@ module _ (bytes : List ℕ) (n : ℕ) (p : plan.Plan) (x : PlanLine bytes n p) w
       ap (λ (l : List ℕ). fields l) x.is
       ∙ laws.of_fields.parted plan_word (x.first ∷ x.second ∷ x.third ∷ x.fourth ∷ []) (plan_without, free)
 
-  pub plan_line : command bytes ≡ Plan n p
+  pub plan_line : command bytes ≡ Some (Plan n p)
   unfolding command worded plan_of then given last
   plan_line =
       let slots = takes most32 x.first (x.second ∷ x.third ∷ x.fourth ∷ []) n x.slots.0 x.slots.1 in
@@ -180,34 +181,34 @@ module _ (bytes : List ℕ) (n : ℕ) (p : plan.Plan) (x : PlanLine bytes n p) w
       rw (plan_fields, plan_is_no_ask, same_self plan_word, slots, limit, period, burst)
 
 -- a number that does not fit shuts the line
-abbrev gate : ℕ → ℕ → Command → Command
-gate most n c = cond (leb n most) c Unreadable
+abbrev gate : ℕ → ℕ → Option Command → Option Command
+gate most n c = cond (leb n most) c None
 
-shut : (most n : ℕ) (c : Command) → most < n → gate most n c ≡ Unreadable
+shut : (most n : ℕ) (c : Option Command) → most < n → gate most n c ≡ None
 shut most n c h = rw (lt-leb n most h)
 
-shut_behind : (most n : ℕ) (c : Command) → c ≡ Unreadable → gate most n c ≡ Unreadable
-shut_behind most n c e = ap (λ (d : Command). gate most n d) e ∙ by (leb n most)
+shut_behind : (most n : ℕ) (c : Option Command) → c ≡ None → gate most n c ≡ None
+shut_behind most n c e = ap (λ (d : Option Command). gate most n d) e ∙ by (leb n most)
   where
-    by : (t : Bool) → cond t Unreadable Unreadable ≡ Unreadable
+    by : (t : Bool) → cond {A = Option Command} t None None ≡ None
     by true = refl
     by false = refl
 
 then_gate :
-    (most : ℕ) (f : List ℕ) (fs : List (List ℕ)) (n : ℕ) (rest : ℕ → List (List ℕ) → Command) → Numeral f n →
+    (most : ℕ) (f : List ℕ) (fs : List (List ℕ)) (n : ℕ) (rest : ℕ → List (List ℕ) → Option Command) → Numeral f n →
     then most (f ∷ fs) rest ≡ gate most n (rest n fs)
 unfolding then given
 then_gate most f fs n rest x = by (leb n most) refl
   where
-    by : (t : Bool) → leb n most ≡ t → given (take_number most (f ∷ fs)) rest ≡ cond t (rest n fs) Unreadable
+    by : (t : Bool) → leb n most ≡ t → given (take_number most (f ∷ fs)) rest ≡ cond t (rest n fs) None
     by true e = rw (takes most f fs n x (leb-true n most e))
     by false e = rw (laws.of_numbers.not_taken most f fs n x (leb-false n most e))
 
 module _ (first second third : List ℕ) (m s c : ℕ) (x : Numeral first m) (y : Numeral second s) (z : Numeral third c) where
-  abbrev ask_cost : Command
-  ask_cost = gate most32 c (Ask m s c)
+  abbrev ask_cost : Option Command
+  ask_cost = gate most32 c (Some (Ask m s c))
 
-  abbrev ask_subscriber : Command
+  abbrev ask_subscriber : Option Command
   ask_subscriber = gate most32 s ask_cost
 
   ask_gates : command (joined (ask_word ∷ first ∷ second ∷ third ∷ [])) ≡ gate most64 m ask_subscriber
@@ -216,29 +217,29 @@ module _ (first second third : List ℕ) (m s c : ℕ) (x : Numeral first m) (y 
       let free : TabFree (first ∷ second ∷ third ∷ []) = (numeral_without x, (numeral_without y, (numeral_without z, tt))) in
       rw (laws.of_fields.parted ask_word (first ∷ second ∷ third ∷ []) (ask_without, free), same_self ask_word)
       (then_gate most64 first (second ∷ third ∷ []) m _ x
-      ∙ ap (λ (d : Command). gate most64 m d) (then_gate most32 second (third ∷ []) s _ y)
-      ∙ ap (λ (d : Command). gate most64 m (gate most32 s d)) (then_gate most32 third [] c _ z))
+      ∙ ap (λ (d : Option Command). gate most64 m d) (then_gate most32 second (third ∷ []) s _ y)
+      ∙ ap (λ (d : Option Command). gate most64 m (gate most32 s d)) (then_gate most32 third [] c _ z))
 
   pub ask_beyond :
       (18446744073709551616 ≤ m) ⊎ ((4294967296 ≤ s) ⊎ (4294967296 ≤ c)) →
-      command (joined (ask_word ∷ first ∷ second ∷ third ∷ [])) ≡ Unreadable
+      command (joined (ask_word ∷ first ∷ second ∷ third ∷ [])) ≡ None
   ask_beyond (inl h) = ask_gates ∙ shut most64 m ask_subscriber (omega arith)
   ask_beyond (inr (inl h)) = ask_gates ∙ shut_behind most64 m ask_subscriber (shut most32 s ask_cost (omega arith))
   ask_beyond (inr (inr h)) =
-      ask_gates ∙ shut_behind most64 m ask_subscriber (shut_behind most32 s ask_cost (shut most32 c (Ask m s c) (omega arith)))
+      ask_gates ∙ shut_behind most64 m ask_subscriber (shut_behind most32 s ask_cost (shut most32 c (Some (Ask m s c)) (omega arith)))
 
 module _ (first second third fourth : List ℕ) (n l p b : ℕ)
     (w : Numeral first n) (x : Numeral second l) (y : Numeral third p) (z : Numeral fourth b) where
-  abbrev plan_whole : Command
-  plan_whole = Plan n (record { limit = l; period = p; burst = b })
+  abbrev plan_whole : Option Command
+  plan_whole = Some (Plan n (record { limit = l; period = p; burst = b }))
 
-  abbrev plan_burst : Command
+  abbrev plan_burst : Option Command
   plan_burst = gate most32 b plan_whole
 
-  abbrev plan_period : Command
+  abbrev plan_period : Option Command
   plan_period = gate most32 p plan_burst
 
-  abbrev plan_limit : Command
+  abbrev plan_limit : Option Command
   plan_limit = gate most32 l plan_period
 
   plan_gates : command (joined (plan_word ∷ first ∷ second ∷ third ∷ fourth ∷ [])) ≡ gate most32 n plan_limit
@@ -248,13 +249,13 @@ module _ (first second third fourth : List ℕ) (n l p b : ℕ)
       let free : TabFree (first ∷ second ∷ third ∷ fourth ∷ []) = (numeral_without w, (numeral_without x, behind)) in
       rw (laws.of_fields.parted plan_word (first ∷ second ∷ third ∷ fourth ∷ []) (plan_without, free), plan_is_no_ask, same_self plan_word)
       (then_gate most32 first (second ∷ third ∷ fourth ∷ []) n _ w
-      ∙ ap (λ (d : Command). gate most32 n d) (then_gate most32 second (third ∷ fourth ∷ []) l _ x)
-      ∙ ap (λ (d : Command). gate most32 n (gate most32 l d)) (then_gate most32 third (fourth ∷ []) p _ y)
-      ∙ ap (λ (d : Command). gate most32 n (gate most32 l (gate most32 p d))) (then_gate most32 fourth [] b _ z))
+      ∙ ap (λ (d : Option Command). gate most32 n d) (then_gate most32 second (third ∷ fourth ∷ []) l _ x)
+      ∙ ap (λ (d : Option Command). gate most32 n (gate most32 l d)) (then_gate most32 third (fourth ∷ []) p _ y)
+      ∙ ap (λ (d : Option Command). gate most32 n (gate most32 l (gate most32 p d))) (then_gate most32 fourth [] b _ z))
 
   pub plan_beyond :
       (4294967296 ≤ n) ⊎ ((4294967296 ≤ l) ⊎ ((4294967296 ≤ p) ⊎ (4294967296 ≤ b))) →
-      command (joined (plan_word ∷ first ∷ second ∷ third ∷ fourth ∷ [])) ≡ Unreadable
+      command (joined (plan_word ∷ first ∷ second ∷ third ∷ fourth ∷ [])) ≡ None
   plan_beyond (inl h) = plan_gates ∙ shut most32 n plan_limit (omega arith)
   plan_beyond (inr (inl h)) = plan_gates ∙ shut_behind most32 n plan_limit (shut most32 l plan_period (omega arith))
   plan_beyond (inr (inr (inl h))) =

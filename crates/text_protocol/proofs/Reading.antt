@@ -3,130 +3,157 @@
 -- Assumes nothing.
 use mathlib.Core.Path.{◌≡◌, refl, sym, ap, ◌∙◌}
 use mathlib.Core.Bool.{Bool, true, false}
-use mathlib.Core.List.{List, ◌∷◌}
+use mathlib.Core.List.{List, [], ◌∷◌}
 use Prim.Native.Nat.{ℕ, ◌+◌, ◌≤◌, ◌<◌}
 use native.Mathlib.Omega.{arith}
-use lib.Dec.{ltb}
+use lib.Dec.{eqb, ltb}
 use lib.ListN.{length, take}
 use lib.Seq.{length-take-le, take_all}
 use borrow.Author.Tests.{le-leb, lt-leb, ltb-true, ltb-false}
-use Rattle.text_tsv.specs.declared.field.Field as field
-use Rattle.text_tsv.specs.Text.{tab, same, up_to}
-use Rattle.text_tsv.specs.Fields.{unreadable, number, fields_at, take_number, taken_of}
+use Rattle.std.specs.Prelude.{Option, Some, None, is_some}
+use Rattle.std.specs.Borrow.{Bor}
+use Rattle.std.specs.Cmp.Lexicographic.{pointwise}
+use Rattle.std.specs.Iterator.{YieldsFirstBy}
+use Rattle.text_tsv.specs.Text.{same}
+use Rattle.text_tsv.specs.Fields.{unreadable, number, fields_at, take_number, taken_as}
 use Rattle.text_tsv.proofs.Lines.{ended_line, unended_line}
 use Rattle.text_tsv.proofs.Fields.{fields_all, taken_number, taken_unreadable}
-use Rattle.text_tsv.proofs.Scanning.{found_within}
-use Rattle.text_tsv.proofs.Splitting.{front, fields_beyond, fields_here}
+use Rattle.text_tsv.proofs.Parts.{compared}
 use Rattle.text_tsv.proofs.Within.{takes_within}
-use Rattle.text_protocol.specs.declared.command.Command.TheVariants.{Plan, Ask, Unreadable}
+use Rattle.text_protocol.specs.declared.command.Command.{Command}
+use Rattle.text_protocol.specs.declared.command.Command.TheVariants.{Plan, Ask}
 use Rattle.text_protocol.specs.Command.{most64, most32, ask_word, plan_word, given, then, last, ask_of, plan_of, worded, command}
 use Rattle.text_protocol.specs.Command.{most_line, line_command}
 
--- the field at a place is a number of at most so much, and the next field stands at `next`
-pub record NumberAt (line : List ℕ) (most at v next : ℕ) : Type 0 where
-  pub takes : take_number most (fields_at line at) ≡ number v (fields_at line next)
+-- some fields begin with a number of at most so much, and these are left
+pub record NumberFirst (most : ℕ) (fs : List (List ℕ)) (v : ℕ) (rest : List (List ℕ)) : Type 0 where
+  pub takes : take_number most fs ≡ number v rest
 
--- it is no such number, or there is no field
-pub record NoNumberAt (line : List ℕ) (most at : ℕ) : Type 0 where
-  pub takes : take_number most (fields_at line at) ≡ unreadable
+-- they begin with no such number, or there is no field
+pub record NoNumberFirst (most : ℕ) (fs : List (List ℕ)) : Type 0 where
+  pub takes : take_number most fs ≡ unreadable
 
-pub number_within : {line : List ℕ} {most at v next : ℕ} → NumberAt line most at v next → v ≤ most
-number_within {line} {most} {at} n = takes_within most (fields_at line at) (sym n.takes)
+-- as a reader tells it
+module _ {most : ℕ} (fs rest : List (List ℕ)) {r : Option ℕ} (told : taken_as r rest ≡ take_number most fs) where
+  pub number_first : {v : ℕ} → r ≡ Some v → NumberFirst most fs v rest
+  number_first e = record { takes = sym told ∙ taken_number rest e }
 
--- as the reader of a field tells it
-module _ {line : List ℕ} {most at : ℕ} {f : field.Field} (told : taken_of line f ≡ take_number most (fields_at line at)) where
-  pub number_at : {v next : ℕ} → f ≡ field.TheVariants.Number v next → NumberAt line most at v next
-  number_at e = record { takes = sym told ∙ taken_number line e }
+  pub no_number_first : r ≡ None → NoNumberFirst most fs
+  no_number_first e = record { takes = sym told ∙ taken_unreadable rest e }
 
-  pub no_number_at : f ≡ field.TheVariants.Unreadable → NoNumberAt line most at
-  no_number_at e = record { takes = sym told ∙ taken_unreadable line e }
+  pub number_within : {v : ℕ} → r ≡ Some v → v ≤ most
+  number_within e = takes_within most fs (sym (taken_number rest e) ∙ told)
+
+-- a reader tells the first of some fields, if there is one
+abbrev TellsFirst : List (List ℕ) → Option (Bor (List ℕ)) → List (List ℕ) → Type 0
+TellsFirst fs r rest = YieldsFirstBy (λ f. f.now) (λ gs. gs) fs r rest
+
+-- so it tells whether one is left
+module _ (fs rest : List (List ℕ)) (r : Option (Bor (List ℕ))) (told : TellsFirst fs r rest) (c : Option Command) where
+  left_over : is_some r ≡ true → last fs c ≡ None
+  unfolding last
+  left_over e = by r told e
+    where
+      by : (q : Option (Bor (List ℕ))) → TellsFirst fs q rest → is_some q ≡ true → last fs c ≡ None
+      by None t e = cc
+      by (Some x) t e = rw t refl
+
+  none_left : is_some r ≡ false → last fs c ≡ c
+  unfolding last
+  none_left e = by r told e
+    where
+      by : (q : Option (Bor (List ℕ))) → TellsFirst fs q rest → is_some q ≡ false → last fs c ≡ c
+      by None t e = rw t.0 refl
+      by (Some x) t e = cc
 
 -- the fields after `ask`
-module _ {line : List ℕ} {at : ℕ} where
-  pub ask_no_moment : NoNumberAt line most64 at → Unreadable ≡ ask_of (fields_at line at)
+module _ {fs : List (List ℕ)} where
+  pub ask_no_moment : NoNumberFirst most64 fs → None ≡ ask_of fs
   unfolding ask_of then given
   ask_no_moment x = rw x.takes
 
-  module _ {moment at_subscriber : ℕ} (m : NumberAt line most64 at moment at_subscriber) where
-    pub ask_no_subscriber : NoNumberAt line most32 at_subscriber → Unreadable ≡ ask_of (fields_at line at)
+  module _ {moment : ℕ} {fs1 : List (List ℕ)} (m : NumberFirst most64 fs moment fs1) where
+    pub ask_no_subscriber : NoNumberFirst most32 fs1 → None ≡ ask_of fs
     unfolding ask_of then given
     ask_no_subscriber x = rw (m.takes, x.takes)
 
-    module _ {subscriber at_cost : ℕ} (s : NumberAt line most32 at_subscriber subscriber at_cost) where
-      pub ask_no_cost : NoNumberAt line most32 at_cost → Unreadable ≡ ask_of (fields_at line at)
+    module _ {subscriber : ℕ} {fs2 : List (List ℕ)} (s : NumberFirst most32 fs1 subscriber fs2) where
+      pub ask_no_cost : NoNumberFirst most32 fs2 → None ≡ ask_of fs
       unfolding ask_of then given
       ask_no_cost x = rw (m.takes, s.takes, x.takes)
 
-      module _ {cost end : ℕ} (k : NumberAt line most32 at_cost cost end) where
-        pub ask_left_over : end ≤ length line → Unreadable ≡ ask_of (fields_at line at)
-        unfolding ask_of then given last
-        ask_left_over h = rw (m.takes, s.takes, k.takes, fields_here line end h refl)
+      module _ {cost : ℕ} {fs3 : List (List ℕ)} (k : NumberFirst most32 fs2 cost fs3)
+          (rest : List (List ℕ)) (r : Option (Bor (List ℕ))) (told : TellsFirst fs3 r rest) where
+        pub ask_left_over : is_some r ≡ true → None ≡ ask_of fs
+        unfolding ask_of then given
+        ask_left_over e = rw (m.takes, s.takes, k.takes) (sym (left_over fs3 rest r told _ e))
 
-        pub ask_read : length line < end → Ask moment subscriber cost ≡ ask_of (fields_at line at)
-        unfolding ask_of then given last
-        ask_read h = rw (m.takes, s.takes, k.takes, fields_beyond line end h)
+        pub ask_read : is_some r ≡ false → Some (Ask moment subscriber cost) ≡ ask_of fs
+        unfolding ask_of then given
+        ask_read e = rw (m.takes, s.takes, k.takes) (sym (none_left fs3 rest r told _ e))
 
 -- the fields after `plan`
-module _ {line : List ℕ} {at : ℕ} where
-  pub plan_no_slots : NoNumberAt line most32 at → Unreadable ≡ plan_of (fields_at line at)
+module _ {fs : List (List ℕ)} where
+  pub plan_no_slots : NoNumberFirst most32 fs → None ≡ plan_of fs
   unfolding plan_of then given
   plan_no_slots x = rw x.takes
 
-  module _ {slots at_limit : ℕ} (s : NumberAt line most32 at slots at_limit) where
-    pub plan_no_limit : NoNumberAt line most32 at_limit → Unreadable ≡ plan_of (fields_at line at)
+  module _ {slots : ℕ} {fs1 : List (List ℕ)} (s : NumberFirst most32 fs slots fs1) where
+    pub plan_no_limit : NoNumberFirst most32 fs1 → None ≡ plan_of fs
     unfolding plan_of then given
     plan_no_limit x = rw (s.takes, x.takes)
 
-    module _ {limit at_period : ℕ} (l : NumberAt line most32 at_limit limit at_period) where
-      pub plan_no_period : NoNumberAt line most32 at_period → Unreadable ≡ plan_of (fields_at line at)
+    module _ {limit : ℕ} {fs2 : List (List ℕ)} (l : NumberFirst most32 fs1 limit fs2) where
+      pub plan_no_period : NoNumberFirst most32 fs2 → None ≡ plan_of fs
       unfolding plan_of then given
       plan_no_period x = rw (s.takes, l.takes, x.takes)
 
-      module _ {period at_burst : ℕ} (p : NumberAt line most32 at_period period at_burst) where
-        pub plan_no_burst : NoNumberAt line most32 at_burst → Unreadable ≡ plan_of (fields_at line at)
+      module _ {period : ℕ} {fs3 : List (List ℕ)} (p : NumberFirst most32 fs2 period fs3) where
+        pub plan_no_burst : NoNumberFirst most32 fs3 → None ≡ plan_of fs
         unfolding plan_of then given
         plan_no_burst x = rw (s.takes, l.takes, p.takes, x.takes)
 
-        module _ {burst end : ℕ} (b : NumberAt line most32 at_burst burst end) where
-          pub plan_left_over : end ≤ length line → Unreadable ≡ plan_of (fields_at line at)
-          unfolding plan_of then given last
-          plan_left_over h = rw (s.takes, l.takes, p.takes, b.takes, fields_here line end h refl)
+        module _ {burst : ℕ} {fs4 : List (List ℕ)} (b : NumberFirst most32 fs3 burst fs4)
+            (rest : List (List ℕ)) (r : Option (Bor (List ℕ))) (told : TellsFirst fs4 r rest) where
+          pub plan_left_over : is_some r ≡ true → None ≡ plan_of fs
+          unfolding plan_of then given
+          plan_left_over e = rw (s.takes, l.takes, p.takes, b.takes) (sym (left_over fs4 rest r told _ e))
 
           pub plan_read :
-              length line < end →
-              Plan slots (record { limit = limit; period = period; burst = burst }) ≡ plan_of (fields_at line at)
-          unfolding plan_of then given last
-          plan_read h = rw (s.takes, l.takes, p.takes, b.takes, fields_beyond line end h)
+              is_some r ≡ false → Some (Plan slots (record { limit = limit; period = period; burst = burst })) ≡ plan_of fs
+          unfolding plan_of then given
+          plan_read e = rw (s.takes, l.takes, p.takes, b.takes) (sym (none_left fs4 rest r told _ e))
 
--- the first word, up to the first tab
-module _ (line : List ℕ) {end : ℕ} (e : end ≡ 0 + length (up_to tab line)) where
-  pub word_within : end ≤ length line
-  word_within = omega (arith, found_within tab line)
+-- what `==` says of a word
+pub is_word : (word : List ℕ) {other bytes : List ℕ} {r : Bool} → r ≡ pointwise eqb word bytes → bytes ≡ other → r ≡ same word other
+is_word word {other} e b = e ∙ ap (λ (s : List ℕ). pointwise eqb word s) b ∙ compared word other
 
-  word_is : up_to tab line ≡ take end line
-  word_is = sym (ap (λ (n : ℕ). take n line) {x = end} {y = length (up_to tab line)} (omega arith) ∙ front tab line)
+-- the first word, and the fields after it
+module _ (line : List ℕ) where
+  pub says_no_word : fields_at line 0 ≡ [] → None ≡ command line
+  unfolding command worded
+  says_no_word e = rw (sym (fields_all line) ∙ e) refl
 
-  command_is : command line ≡ worded (take end line ∷ fields_at line (end + 1))
-  unfolding command
-  command_is =
-      ap (λ (fs : List (List ℕ)). worded fs) (sym (fields_all line) ∙ fields_here line 0 (omega arith) e)
-      ∙ ap (λ (word : List ℕ). worded (word ∷ fields_at line (end + 1))) word_is
+  module _ {word : List ℕ} {rest : List (List ℕ)} (first : fields_at line 0 ≡ word ∷ rest) where
+    command_is : command line ≡ worded (word ∷ rest)
+    unfolding command
+    command_is = ap (λ (fs : List (List ℕ)). worded fs) (sym (fields_all line) ∙ first)
 
-  pub says_ask : same (take end line) ask_word ≡ true → ask_of (fields_at line (end + 1)) ≡ command line
-  unfolding worded
-  says_ask a = rw (command_is, a)
-
-  module _ (a : same (take end line) ask_word ≡ false) where
-    pub says_plan : same (take end line) plan_word ≡ true → plan_of (fields_at line (end + 1)) ≡ command line
+    pub says_ask : same word ask_word ≡ true → ask_of rest ≡ command line
     unfolding worded
-    says_plan p = rw (command_is, a, p)
+    says_ask a = rw (command_is, a)
 
-    pub says_nothing : same (take end line) plan_word ≡ false → Unreadable ≡ command line
-    unfolding worded
-    says_nothing p = rw (command_is, a, p)
+    module _ (a : same word ask_word ≡ false) where
+      pub says_plan : same word plan_word ≡ true → plan_of rest ≡ command line
+      unfolding worded
+      says_plan p = rw (command_is, a, p)
+
+      pub says_nothing : same word plan_word ≡ false → None ≡ command line
+      unfolding worded
+      says_nothing p = rw (command_is, a, p)
 
 -- a line that ended
-pub too_long : (line : List ℕ) → most_line ≤ length line → Unreadable ≡ line_command (ended_line line)
+pub too_long : (line : List ℕ) → most_line ≤ length line → None ≡ line_command (ended_line line)
 unfolding line_command
 too_long line h = rw (lt-leb (length line + 1) most_line (omega arith))
 
@@ -148,7 +175,15 @@ module _ (line : List ℕ) where
           let full : most_line ≤ length (take most_line line) = omega (arith, length-take-le most_line line long) in
           sym (too_long (take most_line line) full) ∙ too_long line long
 
+pub ruleset by_length = (too_long, short_enough)
+
 -- a line that lacks its LF
-pub unended_says_nothing : (line : List ℕ) → line_command (unended_line line) ≡ Unreadable
+pub unended_says_nothing : (line : List ℕ) → line_command (unended_line line) ≡ None
 unfolding line_command
 unended_says_nothing line = refl
+
+pub ruleset by_fields_of_ask = (number_first, no_number_first, ask_no_moment, ask_no_subscriber, ask_no_cost)
+
+pub ruleset by_fields_of_plan = (number_first, no_number_first, plan_no_slots, plan_no_limit, plan_no_period, plan_no_burst)
+
+pub ruleset by_word = (says_no_word, is_word, says_ask, says_plan, says_nothing)

@@ -1,11 +1,11 @@
 -- The laws of the text program's lines (document 01, 'The tabbed text'), with its words, its order of fields and its numbers.
-use Rattle.std.specs.Prelude.{ℕ, ◌+◌, ◌≤◌, ◌≡◌, true, false, ◌⊎◌, List, [], ◌∷◌, ◌++◌, length}
+use Rattle.std.specs.Prelude.{ℕ, ◌+◌, ◌≤◌, ◌≡◌, true, false, ◌⊎◌, List, [], ◌∷◌, ◌++◌, length, Some, None}
 use Rattle.ticks.specs.declared.plan.Plan as plan
 use Rattle.rate.specs.declared.answer.Numbers.{Numbers}
 use Rattle.text_tsv.specs.Text.{bytes_of}
 use Rattle.text_tsv.specs.Decimal.{digits}
 use Rattle.text_tsv.specs.Laws.{joined, Numeral}
-use Rattle.text_protocol.specs.declared.command.Command.TheVariants.{Plan, Ask, Unreadable}
+use Rattle.text_protocol.specs.declared.command.Command.TheVariants.{Plan, Ask}
 use Rattle.text_protocol.specs.Command.{command, line_command}
 use Rattle.text_protocol.specs.Reply.{header, line, refusal, unreadable}
 
@@ -38,28 +38,28 @@ pub record PlanLine (bytes : List ℕ) (n : ℕ) (p : plan.Plan) : Type 0 where
   pub period : Fits32 third p.period
   pub burst : Fits32 fourth p.burst
 
--- what a line says; it is unreadable unless it is an ask or a plan
+-- what a line says; it says nothing unless it is an ask or a plan
 pub record CommandLaws : Type 0 where
   pub ask_exactly :
-      (bytes : List ℕ) (m s c : ℕ) → (command bytes ≡ Ask m s c → AskLine bytes m s c) × (AskLine bytes m s c → command bytes ≡ Ask m s c)
+      (bytes : List ℕ) (m s c : ℕ) → (command bytes ≡ Some (Ask m s c) → AskLine bytes m s c) × (AskLine bytes m s c → command bytes ≡ Some (Ask m s c))
   pub plan_exactly :
       (bytes : List ℕ) (n : ℕ) (p : plan.Plan) →
-      (command bytes ≡ Plan n p → PlanLine bytes n p) × (PlanLine bytes n p → command bytes ≡ Plan n p)
+      (command bytes ≡ Some (Plan n p) → PlanLine bytes n p) × (PlanLine bytes n p → command bytes ≡ Some (Plan n p))
   -- and so is one with a number that does not fit
   pub ask_beyond :
       (first second third : List ℕ) (m s c : ℕ) → Numeral first m → Numeral second s → Numeral third c →
       (18446744073709551616 ≤ m) ⊎ ((4294967296 ≤ s) ⊎ (4294967296 ≤ c)) →
-      command (joined (bytes_of "ask" ∷ first ∷ second ∷ third ∷ [])) ≡ Unreadable
+      command (joined (bytes_of "ask" ∷ first ∷ second ∷ third ∷ [])) ≡ None
   pub plan_beyond :
       (first second third fourth : List ℕ) (n l p b : ℕ) → Numeral first n → Numeral second l → Numeral third p → Numeral fourth b →
       (4294967296 ≤ n) ⊎ ((4294967296 ≤ l) ⊎ ((4294967296 ≤ p) ⊎ (4294967296 ≤ b))) →
-      command (joined (bytes_of "plan" ∷ first ∷ second ∷ third ∷ fourth ∷ [])) ≡ Unreadable
+      command (joined (bytes_of "plan" ∷ first ∷ second ∷ third ∷ fourth ∷ [])) ≡ None
   -- a line of up to 128 bytes with its LF is read
   pub line_read : (bytes : List ℕ) → length bytes + 1 ≤ 128 → line_command (record { bytes = bytes; ended = true }) ≡ command bytes
   -- one of 129 or more is not
-  pub line_too_long : (bytes : List ℕ) → 129 ≤ length bytes + 1 → line_command (record { bytes = bytes; ended = true }) ≡ Unreadable
+  pub line_too_long : (bytes : List ℕ) → 129 ≤ length bytes + 1 → line_command (record { bytes = bytes; ended = true }) ≡ None
   -- nor is one that lacks its LF
-  pub line_unended : (bytes : List ℕ) → line_command (record { bytes = bytes; ended = false }) ≡ Unreadable
+  pub line_unended : (bytes : List ℕ) → line_command (record { bytes = bytes; ended = false }) ≡ None
 
 -- what is written
 pub record ReplyLaws : Type 0 where

@@ -1,19 +1,15 @@
 // What a line says (document 01, 'The tabbed text'): `plan`, seats, limit, period, burst; or `ask`, moment, subscriber, cost.
 ghost use Rattle.std.specs.Prelude.{◌≡◌, true};
-ghost use Rattle.text_tsv.specs.Fields.{fields_at};
-ghost use Rattle.text_protocol.specs.Command.{ask_of, plan_of, command, line_command};
+ghost use Rattle.text_tsv.specs.Fields.{fields_at, taken_as, take_number};
+ghost use Rattle.text_protocol.specs.Command.{most32, ask_of, plan_of, command, line_command};
 
-use text_tsv::bytes::TAB;
-use text_tsv::field::Field;
-use text_tsv::{bytes, field};
+use text_tsv::field::Reader;
 use ticks::plan::Plan;
 
 // The longest line that can be read, with its LF.
 pub const MOST_LINE: usize = 128;
 
-const MOST_64: u64 = 18_446_744_073_709_551_615;
-
-const MOST_32: u64 = 4_294_967_295;
+const MOST_32: u64 = u32::MAX as u64;
 
 #[derive(Clone, Copy)]
 pub enum Command {
@@ -26,93 +22,80 @@ pub enum Command {
         subscriber: u32,
         cost: u32,
     },
-    Unreadable,
+}
+
+// The next field, as a number of 32 bits.
+#[tactic(auto, using(crate::proofs::Reading::number_within))]
+fn small(fields: &mut Reader) -> Option<u32>
+    ensures { taken_as result (fields_at fields.new.text.now fields.new.at)
+        ≡ take_number most32 (fields_at fields.old.text.now fields.old.at) }
+{
+    Some(fields.number(MOST_32)? as u32)
 }
 
 // The fields after `ask`.
-fn ask(line: &[u8], at: usize) -> Command
-    ensures { result ≡ ask_of (fields_at line.now at) }
+#[tactic(auto, using(crate::proofs::Reading::by_fields_of_ask))]
+fn ask(mut fields: Reader) -> Option<Command>
+    ensures { result ≡ ask_of (fields_at fields.entry.text.now fields.entry.at) }
 {
-    let Field::Number {
-        value: moment,
-        next,
-    } = field::number(line, at, MOST_64)
-    else {
-        return Command::Unreadable;
-    };
-    let Field::Number {
-        value: subscriber,
-        next,
-    } = field::number(line, next, MOST_32)
-    else {
-        return Command::Unreadable;
-    };
-    let Field::Number { value: cost, next } = field::number(line, next, MOST_32) else {
-        return Command::Unreadable;
-    };
-    if next <= line.len() {
-        return Command::Unreadable;
+    let moment = fields.number(u64::MAX)?;
+    let subscriber = small(&mut fields)?;
+    let cost = small(&mut fields)?;
+    if fields.next().is_some() {
+        return None;
     }
-    Command::Ask {
+    Some(Command::Ask {
         moment,
-        subscriber: subscriber as u32,
-        cost: cost as u32,
-    }
+        subscriber,
+        cost,
+    })
 }
 
 // The fields after `plan`.
-fn plan(line: &[u8], at: usize) -> Command
-    ensures { result ≡ plan_of (fields_at line.now at) }
+#[tactic(auto, using(crate::proofs::Reading::by_fields_of_plan))]
+fn plan(mut fields: Reader) -> Option<Command>
+    ensures { result ≡ plan_of (fields_at fields.entry.text.now fields.entry.at) }
 {
-    let Field::Number { value: slots, next } = field::number(line, at, MOST_32) else {
-        return Command::Unreadable;
-    };
-    let Field::Number { value: limit, next } = field::number(line, next, MOST_32) else {
-        return Command::Unreadable;
-    };
-    let Field::Number {
-        value: period,
-        next,
-    } = field::number(line, next, MOST_32)
-    else {
-        return Command::Unreadable;
-    };
-    let Field::Number { value: burst, next } = field::number(line, next, MOST_32) else {
-        return Command::Unreadable;
-    };
-    if next <= line.len() {
-        return Command::Unreadable;
+    let slots = small(&mut fields)?;
+    let limit = small(&mut fields)?;
+    let period = small(&mut fields)?;
+    let burst = small(&mut fields)?;
+    if fields.next().is_some() {
+        return None;
     }
-    Command::Plan {
-        slots: slots as u32,
+    Some(Command::Plan {
+        slots,
         plan: Plan {
-            limit: limit as u32,
-            period: period as u32,
-            burst: burst as u32,
+            limit,
+            period,
+            burst,
         },
-    }
+    })
 }
 
 // The bytes of a line, by its first word.
-fn worded(line: &[u8]) -> Command
+#[tactic(auto, using(crate::proofs::Reading::by_word))]
+fn worded(line: &[u8]) -> Option<Command>
     ensures { result ≡ command line.now }
 {
-    let end = bytes::find(line, 0, TAB);
-    if bytes::same(&line[..end], b"ask") {
-        return ask(line, end + 1);
+    let mut fields = Reader::over(line);
+    let word = fields.next()?;
+    if word == b"ask".as_slice() {
+        return ask(fields);
     }
-    if bytes::same(&line[..end], b"plan") {
-        return plan(line, end + 1);
+    if word == b"plan".as_slice() {
+        return plan(fields);
     }
-    Command::Unreadable
+    None
 }
 
-// A line that ended, without its LF. One that is too long says nothing.
-pub fn read(line: &[u8]) -> Command
+// What a line says that ended, without its LF; or nothing, as one that is too long.
+#[tactic(auto, using(crate::proofs::Reading::by_length))]
+pub fn read(line: &[u8]) -> Option<Command>
     ensures { result ≡ line_command (record { bytes = line.now; ended = true }) }
 {
     if MOST_LINE <= line.len() {
-        return Command::Unreadable;
+        return None;
     }
     worded(line)
 }

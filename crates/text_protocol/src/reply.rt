@@ -15,20 +15,18 @@ pub const HEADER: usize = 35;
 
 pub const MOST_REPLY: usize = 105;
 
-// A number and four zeros.
+// A number and four zeros: of any number, as the clause says.
+#[tactic(auto, using(rate::proofs::Answers::answered_bare))]
 pub fn refusal(number: u64) -> Numbers
     ensures { result ≡ refusal number }
 {
-    Numbers {
-        number,
-        subscriber: 0,
-        left: 0,
-        reset: 0,
-        wait: 0,
-    }
+    Numbers::bare(number, 0)
 }
 
-// Writes an answer's line from `at` on, and says where the next byte goes.
+// Writes an answer's line from `at` on, and says where the next byte goes. No loop over the fields: the last alone ends with LF.
+// The output and the place are no struct: each call would have to promise, beside what it writes, that the struct holds the same output.
+// Nor is the rest of the output lent, `&mut out[at..]`, and a count handed back: the next call would need the sum of the counts all the same.
+#[tactic(auto, using(crate::proofs::Putting::by_cells), unfolding(crate::specs::Reply::line))]
 pub fn put(out: &mut [u8], at: usize, numbers: Numbers) -> usize
     requires { at + length (line numbers) ≤ length out.old }
     ensures { (result ≡ at + length (line numbers)) × (out.new ≡ sets out.old at (line numbers)) }
@@ -41,6 +39,7 @@ pub fn put(out: &mut [u8], at: usize, numbers: Numbers) -> usize
 }
 
 // Writes the header.
+#[tactic(auto, unfolding(crate::specs::Reply::header))]
 pub fn put_header(out: &mut [u8]) -> usize
     requires { length header ≤ length out.old }
     ensures { (result ≡ length header) × (out.new ≡ sets out.old 0 header) }

@@ -4,21 +4,22 @@ use Rattle.std.proofs.Common.{[], ◌++◌, refl, arith}
 use Rattle.text_protocol.specs.Reply.{header}
 use Rattle.text_session.specs.Stream.{said}
 use Rattle.text_session.specs.Transcript.{transcript}
-use Rattle.text_serve.specs.declared.Run.TheVariants.{Ended, Unended, TooLong}
+use Rattle.std.specs.Prelude.{Ok, Err}
+use Rattle.text_serve.specs.declared.error.RunError.TheVariants.{Unread, TooLong}
 use Rattle.text_serve.specs.Serving.{Finished, Account, start_of, Ran, Serves}
 use Rattle.text_serve.specs.Laws.{RunLaws}
 use Rattle.text_serve.proofs.Reached as reached
 
 module _ (a : Account) {b : Account} where
-  ended : Serves Ended a b → Ran 0 transcript a b
+  ended : Serves (Ok tt) a b → Ran 0 transcript a b
   unfolding Finished
   ended s = s
 
-  unended : Serves Unended a b → Ran 0 (λ input. header ++ said (start_of a) input) a b
+  unended : Serves (Err Unread) a b → Ran 0 (λ input. header ++ said (start_of a) input) a b
   unfolding Finished
   unended s = s
 
-  too_long : Serves TooLong a b → Ran 18446744073709551615 (λ input. header ++ said (start_of a) input) a b
+  too_long : Serves (Err TooLong) a b → Ran 18446744073709551615 (λ input. header ++ said (start_of a) input) a b
   unfolding Finished
   too_long s = s
 

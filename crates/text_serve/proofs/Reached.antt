@@ -1,19 +1,19 @@
 -- How far a run has come: a piece more leads on, since what is said of two pieces is what is said of the first and then of the
 -- second; and what it comes to.
 -- Assumes nothing.
-use Rattle.std.proofs.Common.{◌≡◌, ℕ, ◌+◌, ◌-◌, ◌≤◌, List, [], ◌++◌, length, refl, sym, ap, ◌∙◌, add-zero, arith, length-append}
+use Rattle.std.proofs.Common.{◌≡◌, ℕ, ◌+◌, ◌-◌, ◌≤◌, List, [], ◌++◌, length, refl, sym, ap, subst, ◌∙◌, add-zero, arith, length-append}
 use Rattle.table_gcra.specs.Table.{Table}
 use Rattle.text_protocol.specs.Reply.{header}
 use Rattle.text_session.specs.Session.{Lent}
 use Rattle.text_session.specs.Stream.{State, said, after, ending}
 use Rattle.text_session.proofs.LineEnds.{ending_any}
 use Rattle.text_session.proofs.Streamed.{said_none, after_none, said_append, after_append, streamed}
-use Rattle.text_stream.specs.declared.Session.{Session}
-use Rattle.text_stream.specs.Running.{state_of, started, no_table, ending_of}
+use Rattle.text_stream.specs.Running.{Session, state_of, started, no_table, ending_of}
 use Rattle.text_io.specs.Piece.{Counted, Written}
 use Rattle.text_io.proofs.Counting.{counted_as, counted_none, counted_on}
-use Rattle.text_serve.specs.declared.Run.{Run}
-use Rattle.text_serve.specs.declared.Run.TheVariants.{Ended, Unended, TooLong, Unwritten}
+use Rattle.std.specs.Prelude.{Result, Ok, Err, IsErrAnd}
+use Rattle.text_serve.specs.declared.error.RunError.{RunError}
+use Rattle.text_serve.specs.declared.error.RunError.TheVariants.{Unread, TooLong, Unwritten}
 use Rattle.text_serve.specs.Serving.{Finished, Account, account_of, start_of, too_long, Ran, Answers, Serves}
 use Rattle.text_serve.specs.Laws.{Reached}
 
@@ -79,17 +79,36 @@ module _ {a : Account} {turns : ℕ} {σ : State} {taken sent : ℕ} (r : Reache
         ∙ sym (length-append so_far (ending (after (start_of a) r.input))))
         (counted_on r.sent_is c))
 
+-- an error that a `?` hands on: nothing is promised of a write that failed, and a read that failed ends the run
+on_error :
+    (run : Result (Unit {0}) RunError) {error : RunError} (P : Result (Unit {0}) RunError → Type 0) →
+    IsErrAnd run (λ e. e ≡ error) → P (Err error) → P run
+on_error (Ok done) P h p = absurd h
+on_error (Err e) P h p = subst (λ (x : RunError). P (Err x)) (sym h) p
+
+pub on_unwritten :
+    (run : Result (Unit {0}) RunError) (ended unended long : Type 0) → IsErrAnd run (λ e. e ≡ Unwritten) →
+    Finished run ended unended long
+unfolding Finished
+on_unwritten run ended unended long h = on_error run (λ (r : Result (Unit {0}) RunError). Finished r ended unended long) h tt
+
+pub on_unread :
+    (run : Result (Unit {0}) RunError) (ended unended long : Type 0) → IsErrAnd run (λ e. e ≡ Unread) → unended →
+    Finished run ended unended long
+unfolding Finished
+on_unread run ended unended long h p = on_error run (λ (r : Result (Unit {0}) RunError). Finished r ended unended long) h p
+
 -- as `close` leaves it
 pub closed :
     {a : Account} {turns : ℕ} (s : Session) (line : List ℕ) {t : Table} {taken taken' sent : ℕ} →
-    Reached a turns (state_of s line t) taken sent → Counted taken 0 taken' → (run : Run) (out : List ℕ) (sent' : ℕ) →
+    Reached a turns (state_of s line t) taken sent → Counted taken 0 taken' → (run : Result (Unit {0}) RunError) (out : List ℕ) (sent' : ℕ) →
     Finished run (Written (ending_of s line) out sent sent') ⊥ ⊥ → Answers run a (account_of t taken' sent')
 unfolding Finished
-closed s line {t} r none Ended out sent' f =
+closed s line {t} r none (Ok done) out sent' f =
     ended r none (counted_as (ap (λ (l : List ℕ). length l) (ending_any (state_of s line no_table) t)) f.sent_is)
-closed s line r none Unended out sent' f = absurd f
-closed s line r none TooLong out sent' f = absurd f
-closed s line r none Unwritten out sent' f = tt
+closed s line r none (Err Unread) out sent' f = absurd f
+closed s line r none (Err TooLong) out sent' f = absurd f
+closed s line r none (Err Unwritten) out sent' f = tt
 
 -- with the header in front
 module _ (a : Account) (lent : Lent a.table.table.ids a.table.numbers a.table.table.tats) {sent : ℕ} (h : Counted a.sent (length header) sent) where
@@ -110,9 +129,9 @@ module _ (a : Account) (lent : Lent a.table.table.ids a.table.numbers a.table.ta
         table_is = ran.table_is;
       }
 
-  pub served : (run : Run) (b : Account) → Answers run begun b → Serves run a b
+  pub served : (run : Result (Unit {0}) RunError) (b : Account) → Answers run begun b → Serves run a b
   unfolding Finished
-  served Ended b f = headed (λ input. streamed a.table input lent) f
-  served Unended b f = headed (λ input. refl) f
-  served TooLong b f = headed (λ input. refl) f
-  served Unwritten b f = tt
+  served (Ok done) b f = headed (λ input. streamed a.table input lent) f
+  served (Err Unread) b f = headed (λ input. refl) f
+  served (Err TooLong) b f = headed (λ input. refl) f
+  served (Err Unwritten) b f = tt

@@ -1,12 +1,12 @@
 -- The laws of a whole run: how far it has come after each piece, and what it comes to.
-use Rattle.std.specs.Prelude.{◌≡◌, List, ◌++◌, ℕ, ◌+◌, ◌-◌, ◌≤◌, length}
+use Rattle.std.specs.Prelude.{◌≡◌, List, ◌++◌, ℕ, ◌+◌, ◌-◌, ◌≤◌, length, Result, Ok, Err}
 use Rattle.text_protocol.specs.Reply.{header}
 use Rattle.text_session.specs.Session.{Lent}
 use Rattle.text_session.specs.Stream.{State, said, after}
 use Rattle.text_session.specs.Transcript.{transcript}
 use Rattle.text_io.specs.Piece.{Counted}
-use Rattle.text_serve.specs.declared.Run.{Run}
-use Rattle.text_serve.specs.declared.Run.TheVariants.{Ended, Unended, TooLong}
+use Rattle.text_serve.specs.declared.error.RunError.{RunError}
+use Rattle.text_serve.specs.declared.error.RunError.TheVariants.{Unread, TooLong}
 use Rattle.text_serve.specs.Serving.{Account, account_of, start_of, too_long, Ran, Answers, Serves}
 
 -- how far a run has come, with so many turns left: what was read so far is an input, of which each turn read a byte at least
@@ -26,9 +26,9 @@ pub record RunLaws (a : Account) : Type 0 where
       Reached a (turns - 1) τ taken' sent'
   -- the header and then the answers are the whole run
   pub served :
-      Lent a.table.table.ids a.table.numbers a.table.table.tats → {sent : ℕ} → Counted a.sent (length header) sent → (run : Run) (b : Account) →
+      Lent a.table.table.ids a.table.numbers a.table.table.tats → {sent : ℕ} → Counted a.sent (length header) sent → (run : Result (Unit {0}) RunError) (b : Account) →
       Answers run (account_of a.table a.taken sent) b → Serves run a b
   -- what a run comes to that ended with the input, that could not read on, and that was too long for it
-  pub ended : {b : Account} → Serves Ended a b → Ran 0 transcript a b
-  pub unended : {b : Account} → Serves Unended a b → Ran 0 (λ input. header ++ said (start_of a) input) a b
-  pub too_long : {b : Account} → Serves TooLong a b → Ran 18446744073709551615 (λ input. header ++ said (start_of a) input) a b
+  pub ended : {b : Account} → Serves (Ok tt) a b → Ran 0 transcript a b
+  pub unended : {b : Account} → Serves (Err Unread) a b → Ran 0 (λ input. header ++ said (start_of a) input) a b
+  pub too_long : {b : Account} → Serves (Err TooLong) a b → Ran 18446744073709551615 (λ input. header ++ said (start_of a) input) a b

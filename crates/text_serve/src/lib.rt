@@ -2,124 +2,72 @@
 // that no answer is lost.
 #![tactic(auto)]
 
-ghost use Rattle.std.specs.Prelude.{◌≡◌, ◌≤◌, length};
-ghost use Rattle.table_gcra.specs.Table.{table_of};
-ghost use Rattle.text_protocol.specs.Command.{most_line};
+ghost use Rattle.std.specs.Prelude.{◌≤◌, length};
 ghost use Rattle.text_protocol.specs.Reply.{most_reply};
-ghost use Rattle.text_session.specs.Session.{Lent};
-ghost use Rattle.text_stream.specs.Running.{Ready, ending_of};
-ghost use Rattle.text_io.specs.Piece.{Ample, Written};
-ghost use Rattle.text_serve.specs.Serving.{Finished, account_of, Answers, Serves};
+ghost use Rattle.text_session.specs.Store.{table_in, SameLoan};
+ghost use Rattle.text_stream.specs.Running.{session_of, ending_of};
+ghost use Rattle.text_io.specs.Piece.{Written};
+ghost use Rattle.text_serve.specs.Serving.{Finished, account_of, Answers, Serves, SameBuffers};
 
+pub mod buffers; // what the bytes of a run stand in
+pub mod error; // why a run stops
+
+use crate::buffers::Buffers;
+use crate::error::RunError;
 use std::io::{Read, Write};
-use text_io::{Answered, Input};
-use text_stream::Session;
-
-// How a run ended: at the input's end, or before it since it cannot be read or is too long, or with answers that cannot be
-// written.
-#[derive(Clone, Copy)]
-pub enum Run {
-    Ended,
-    Unended,
-    TooLong,
-    Unwritten,
-}
+use text_io::Counter;
+use text_session::store::Store;
+use text_stream::Stream;
 
 // The input's end: what is said there written.
-fn close<W: Write>(
-    output: &mut W,
-    session: Session,
-    line: &[u8],
-    out: &mut [u8],
-    sent: &mut u64,
-) -> Run
-    requires ready { Ready session line.now }
-    requires room { most_reply ≤ length out.old }
+fn close<W: Write>(output: &mut Counter<W>, stream: &Stream, out: &mut [u8]) -> Result<(), RunError>
+    requires { most_reply ≤ length out.old }
     ensures { Finished result
-        (Written (ending_of session line.now) out.new sent.old sent.new) ⊥ ⊥ }
+        (Written (ending_of (session_of stream.now) stream.now.line) out.new output.old.count output.new.count) ⊥ ⊥ }
 {
-    let end = text_stream::finish(session, line, out, 0);
-    if text_io::write(output, out, end, sent) {
-        return Run::Ended;
-    }
-    Run::Unwritten
+    let end = stream.finish(out, 0);
+    output.write(&out[..end])?;
+    Ok(())
 }
 
-// The pieces one after the other. A proved loop has to end, and nothing says that the input does: so the turns are counted down
-// from a number that no run uses up.
+// The pieces one after the other. A proved loop has to end, and nothing says that the input does: so the turns are counted, up to
+// a number that no run reaches.
 fn pieces<R: Read, W: Write>(
-    input: &mut R,
-    output: &mut W,
-    piece: &mut [u8],
-    line: &mut [u8],
-    ids: &mut [u32],
-    numbers: &mut [u8],
-    tats: &mut [u64],
-    newest: &mut u64,
-    out: &mut [u8],
-    taken: &mut u64,
-    sent: &mut u64,
-) -> Run
-    requires line_enough { most_line ≤ length line.old }
-    requires lent { Lent ids.old numbers.old tats.old }
-    requires ample { Ample piece.old out.old }
-    ensures { Answers result
-        (account_of (table_of ids.old numbers.old tats.old newest.old)
-        taken.old sent.old)
-        (account_of (table_of ids.new numbers.new tats.new newest.new)
-        taken.new sent.new) }
+    input: &mut Counter<R>,
+    output: &mut Counter<W>,
+    store: &mut Store<'_>,
+    buffers: &mut Buffers<'_>,
+) -> Result<(), RunError>
+    ensures loan { SameLoan store.old store.new }
+    ensures buffers { SameBuffers buffers.old buffers.new }
+    ensures answers { Answers result
+        (account_of (table_in store.old) input.old.count output.old.count)
+        (account_of (table_in store.new) input.new.count output.new.count) }
 {
-    let mut session = text_stream::start();
-    let mut turns = u64::MAX;
-    loop {
-        if turns == 0 {
-            break Run::TooLong;
-        }
-        match text_io::read(input, piece, taken) {
-            Input::Got(n) => {
-                let told = text_io::answer(
-                    output, session, piece, n, line, ids, numbers, tats, newest, out, sent,
-                );
-                let Answered::Next(next) = told else {
-                    break Run::Unwritten;
-                };
-                session = next;
-            }
-            Input::End => break close(output, session, line, out, sent),
-            Input::Failed => break Run::Unended,
-        }
-        turns -= 1;
+    let mut stream = Stream::start();
+    for _turn in 0..u64::MAX {
+        let Some(n) = input.read(buffers.piece)? else {
+            return close(output, &stream, buffers.out);
+        };
+        output.answer(&mut stream, &buffers.piece[..n], store, buffers.out)?;
     }
+    Err(RunError::TooLong)
 }
 
-// The header, and then the answers.
+// The header, and then the answers. What is lent comes by `&mut`, with a promise that it stays lent: a struct by value that holds a `&mut`
+// the check does not hand on to a call.
 pub fn serve<R: Read, W: Write>(
-    input: &mut R,
-    output: &mut W,
-    piece: &mut [u8],
-    line: &mut [u8],
-    ids: &mut [u32],
-    numbers: &mut [u8],
-    tats: &mut [u64],
-    newest: &mut u64,
-    out: &mut [u8],
-    taken: &mut u64,
-    sent: &mut u64,
-) -> Run
-    requires line_enough { most_line ≤ length line.old }
-    requires lent { Lent ids.old numbers.old tats.old }
-    requires ample { Ample piece.old out.old }
-    ensures { Serves result
-        (account_of (table_of ids.old numbers.old tats.old newest.old)
-        taken.old sent.old)
-        (account_of (table_of ids.new numbers.new tats.new newest.new)
-        taken.new sent.new) }
+    input: &mut Counter<R>,
+    output: &mut Counter<W>,
+    store: &mut Store<'_>,
+    buffers: &mut Buffers<'_>,
+) -> Result<(), RunError>
+    ensures loan { SameLoan store.old store.new }
+    ensures buffers { SameBuffers buffers.old buffers.new }
+    ensures serves { Serves result
+        (account_of (table_in store.old) input.old.count output.old.count)
+        (account_of (table_in store.new) input.new.count output.new.count) }
 {
-    let begun = text_io::begin(output, out, sent);
-    if begun {
-        return pieces(
-            input, output, piece, line, ids, numbers, tats, newest, out, taken, sent,
-        );
-    }
-    Run::Unwritten
+    output.begin(buffers.out)?;
+    pieces(input, output, store, buffers)
 }

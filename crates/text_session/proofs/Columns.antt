@@ -1,13 +1,14 @@
 -- What the calls leave of the columns: a turn keeps the length of all, so that the table fits back in front of the other
 -- slots; and a clear of the first slots leaves zeros in them.
 -- Assumes nothing.
-use mathlib.Core.Path.{◌≡◌, sym, ap, ◌∙◌}
+use mathlib.Core.Path.{◌≡◌, refl, sym, ap, ◌∙◌}
 use mathlib.Core.Bool.{true}
 use Prim.Native.Nat.{ℕ, ◌≤◌}
 use native.Mathlib.Omega.{arith}
 use lib.Dec.{leb}
 use lib.ListN.{length, take, drop, replicate, length-append, length-replicate, take-append-drop}
 use lib.Seq.{length-take-le, take_at}
+use Rattle.std.specs.Prelude.{Option, Some, None}
 use Rattle.ticks.specs.declared.plan.Plan as plan
 use Rattle.table.specs.Request.{request_of}
 use Rattle.table.specs.Calls.{Step}
@@ -15,14 +16,33 @@ use Rattle.table.proofs.Checks.{slots_some}
 use Rattle.table_gcra.specs.Table.{Table, table_of, clear}
 use Rattle.table_gcra.proofs.Lengths.{SameLengths, same_lengths, acquire_lengths, clear_zeros}
 use Rattle.text_protocol.specs.declared.command.Command.{Command}
-use Rattle.text_protocol.specs.declared.command.Command.TheVariants.{Plan, Ask, Unreadable}
-use Rattle.text_session.specs.Session.{only, turn, text_slots, part, back, Room}
+use Rattle.text_protocol.specs.declared.command.Command.TheVariants.{Plan, Ask}
+use Rattle.text_session.specs.declared.store.Store.{Store}
+use Rattle.text_session.specs.Session.{only, turn, text_slots, part, back, Room, Lent}
+use Rattle.text_session.specs.Store.{SameLoan}
 
-pub turn_lengths : (plan : plan.Plan) (c : Command) (t : Table) → SameLengths (turn plan c t).after t
+pub turn_lengths : (plan : plan.Plan) (c : Option Command) (t : Table) → SameLengths (turn plan c t).after t
 unfolding turn
-turn_lengths plan (Ask moment subscriber cost) t = acquire_lengths (request_of (only plan) moment subscriber cost) t
-turn_lengths plan (Plan slots another) t = same_lengths t
-turn_lengths plan Unreadable t = same_lengths t
+turn_lengths plan (Some (Ask moment subscriber cost)) t = acquire_lengths (request_of (only plan) moment subscriber cost) t
+turn_lengths plan (Some (Plan slots another)) t = same_lengths t
+turn_lengths plan None t = same_lengths t
+
+-- a store has the slots that a plan may ask for
+pub lent_in : (s : Store) → Lent s.ids.now s.numbers.now s.tats.now
+lent_in s = record { in_ids = s.in_ids; in_numbers = s.in_numbers; in_tats = s.in_tats }
+
+-- what is lent stays so where nothing is done, and over two steps where it does over each
+pub loan_none : (s : Store) → SameLoan s s
+loan_none s = record { same_ids = refl; same_numbers = refl; same_tats = refl; same_newest = refl }
+
+pub loan_on : {s t u : Store} → SameLoan s t → SameLoan t u → SameLoan s u
+loan_on first second =
+    record {
+      same_ids = second.same_ids ∙ first.same_ids;
+      same_numbers = second.same_numbers ∙ first.same_numbers;
+      same_tats = second.same_tats ∙ first.same_tats;
+      same_newest = second.same_newest ∙ first.same_newest;
+    }
 
 -- a table that is put back as it was
 pub back_same : (slots : ℕ) (t : Table) → back slots t (part slots t) ≡ t

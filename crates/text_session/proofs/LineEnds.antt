@@ -14,18 +14,17 @@ use Rattle.text_tsv.proofs.Scanning.{Lacks, before_lacks, found_within, found_sp
 use Rattle.text_tsv.proofs.Splitting.{front}
 use Rattle.text_protocol.specs.Command.{most_line}
 use Rattle.text_protocol.specs.Reply.{line as reply_line}
-use Rattle.text_session.specs.declared.Reply.{Reply}
-use Rattle.text_session.specs.declared.Reply.TheVariants.{Nothing, Numbers}
+use Rattle.std.specs.Prelude.{Option, Some, None}
 use Rattle.text_session.specs.Session.{Told, unended}
 use Rattle.text_session.specs.Stream.{State, text_of, kept, at_lf, says, moved, said, after, is_held, ending}
 use Rattle.text_session.proofs.Streamed.{said_append, after_append, cut_append}
 
 -- the bytes of a reply
-pub text_nothing : {r : Reply} → r ≡ Nothing → text_of r ≡ []
+pub text_nothing : {r : Option numbers.Numbers} → r ≡ None → text_of r ≡ []
 unfolding text_of
 text_nothing e = rw e
 
-pub text_numbers : {r : Reply} {n : numbers.Numbers} → r ≡ Numbers n → text_of r ≡ reply_line n
+pub text_numbers : {r : Option numbers.Numbers} {n : numbers.Numbers} → r ≡ Some n → text_of r ≡ reply_line n
 unfolding text_of
 text_numbers e = rw e
 

@@ -16,16 +16,19 @@ use Rattle.table_gcra.proofs.Lengths.{SameLengths}
 use Rattle.text_tsv.specs.Text.{Line}
 use Rattle.text_tsv.proofs.Lines.{unended_line}
 use Rattle.text_protocol.specs.declared.command.Command.{Command}
-use Rattle.text_protocol.specs.declared.command.Command.TheVariants.{Plan, Ask, Unreadable}
+use Rattle.text_protocol.specs.declared.command.Command.TheVariants.{Plan, Ask}
 use Rattle.text_protocol.specs.Command.{line_command}
 use Rattle.text_protocol.specs.Reply.{line, refusal, unreadable}
 use Rattle.text_protocol.proofs.Reading.{unended_says_nothing}
-use Rattle.text_session.specs.declared.Opening.TheVariants.{Refused, Opened}
-use Rattle.text_session.specs.declared.Reply.{Reply}
-use Rattle.text_session.specs.declared.Reply.TheVariants.{Nothing, Numbers}
+use Rattle.std.specs.Prelude.{Option, Some, None, Ok, Err}
+use Rattle.rate.specs.declared.answer.Numbers as numbers
+use Rattle.rate.specs.declared.answer.Reason.TheVariants.{BadPlan, BadTable}
+use Rattle.text_session.specs.declared.Opened.{Opened}
+use Rattle.text_session.specs.declared.Refusal.{Refusal}
+use Rattle.text_session.specs.declared.Refusal.TheVariants.{NoPlan, Because}
 use Rattle.text_session.specs.declared.Stage.{Stage}
 use Rattle.text_session.specs.declared.Stage.TheVariants.{First, Open, Over}
-use Rattle.text_session.specs.Session.{text_slots, opening, turn, Told, part, back, first, answer, unended}
+use Rattle.text_session.specs.Session.{text_slots, opened, number_of, opening, turn, Told, part, back, first, answer, unended}
 use Rattle.text_session.specs.Transcript.{run, begun, answers}
 use Rattle.text_session.specs.Stream.{text_of}
 use Rattle.text_session.proofs.Columns.{turn_lengths, zeros, Roomy, put_back, room_back, zeros_lengths, cleared}
@@ -33,13 +36,13 @@ use Rattle.text_session.proofs.Columns.{turn_lengths, zeros, Roomy, put_back, ro
 -- what is still to be said of some lines
 unfoldable pub rest : Stage → Table → List Line → List ℕ
 rest First t ls = answers ls
-rest (Open plan slots) t ls = run plan (part slots t) ls
+rest (Open o) t ls = run o.plan (part o.slots t) ls
 rest Over t ls = []
 
 -- the columns have the slots that a stage needs
 abbrev pub Fit : Stage → Table → Type 0
 Fit First t = Roomy text_slots t
-Fit (Open plan slots) t = Roomy slots t
+Fit (Open o) t = Roomy o.slots t
 Fit Over t = Unit {0}
 
 -- what is told and left is right for what should be said, whatever lines come after
@@ -47,24 +50,24 @@ pub record Right (d : Told) (should : List Line → List ℕ) : Type 0 where
   pub says : (ls : List Line) → text_of d.reply ++ rest d.stage d.table ls ≡ should ls
   pub fits : Fit d.stage d.table
 
-refused_right : (n : ℕ) (t : Table) → Right (first (Refused n) t) (begun (Refused n))
+refused_right : (r : Refusal) (t : Table) → Right (first (Err r) t) (begun (Err r))
 unfolding first rest begun text_of
-refused_right n t = record { says = λ ls. append-nil (line (refusal n)); fits = tt }
+refused_right r t = record { says = λ ls. append-nil (line (refusal (number_of r))); fits = tt }
 
 -- an open run goes on with the table that is put back
 open_right :
-    (plan : plan.Plan) (slots : ℕ) (t : Table) → Roomy slots t → (reply : Reply) (u : Table) → SameLengths u (part slots t) →
-    Right (record { reply = reply; stage = Open plan slots; table = back slots t u }) (λ ls. text_of reply ++ run plan u ls)
+    (o : Opened) (t : Table) → Roomy o.slots t → (reply : Option numbers.Numbers) (u : Table) → SameLengths u (part o.slots t) →
+    Right (record { reply = reply; stage = Open o; table = back o.slots t u }) (λ ls. text_of reply ++ run o.plan u ls)
 unfolding rest
-open_right plan slots t room reply u same =
+open_right o t room reply u same =
     record {
-      says = λ ls. ap (λ (v : Table). text_of reply ++ run plan v ls) (put_back slots t room u same);
-      fits = room_back slots t room u same;
+      says = λ ls. ap (λ (v : Table). text_of reply ++ run o.plan v ls) (put_back o.slots t room u same);
+      fits = room_back o.slots t room u same;
     }
 
 opened_right :
     (plan : plan.Plan) (slots : ℕ) (t : Table) → Roomy text_slots t → leb 1 slots ≡ true → slots ≤ text_slots →
-    Right (first (Opened plan slots) t) (begun (Opened plan slots))
+    Right (first (Ok (opened plan slots)) t) (begun (Ok (opened plan slots)))
 unfolding first begun text_of
 opened_right plan slots t enough some most =
     let room : Roomy slots t = record {
@@ -72,26 +75,26 @@ opened_right plan slots t enough some most =
       in_numbers = omega (arith, enough.in_numbers);
       in_tats = omega (arith, enough.in_tats);
     } in
-    rw (cleared slots t room some most) (open_right plan slots t room Nothing (zeros slots) (zeros_lengths slots t room))
+    rw (cleared slots t room some most) (open_right (opened plan slots) t room None (zeros slots) (zeros_lengths slots t room))
 
 module _ (t : Table) (enough : Roomy text_slots t) where
-  plan_right : (plan : plan.Plan) (slots : ℕ) → Right (first (opening (Plan slots plan)) t) (begun (opening (Plan slots plan)))
+  plan_right : (plan : plan.Plan) (slots : ℕ) → Right (first (opening (Some (Plan slots plan))) t) (begun (opening (Some (Plan slots plan))))
   unfolding opening
   plan_right plan slots = by (plan_ok plan) (leb 1 slots && leb slots text_slots) refl
     where
       by :
           (ok within : Bool) → (leb 1 slots && leb slots text_slots) ≡ within →
-          Right (first (cond ok (cond within (Opened plan slots) (Refused 2)) (Refused 1)) t)
-          (begun (cond ok (cond within (Opened plan slots) (Refused 2)) (Refused 1)))
-      by false within e = refused_right 1 t
-      by true false e = refused_right 2 t
+          Right (first (cond ok (cond within (Ok (opened plan slots)) (Err (Because BadTable))) (Err (Because BadPlan))) t)
+          (begun (cond ok (cond within (Ok (opened plan slots)) (Err (Because BadTable))) (Err (Because BadPlan))))
+      by false within e = refused_right (Because BadPlan) t
+      by true false e = refused_right (Because BadTable) t
       by true true e = let h = both _ _ e in opened_right plan slots t enough h.0 (leb-true _ _ h.1)
 
-  first_right : (c : Command) → Right (first (opening c) t) (begun (opening c))
+  first_right : (c : Option Command) → Right (first (opening c) t) (begun (opening c))
   unfolding opening
-  first_right (Plan slots plan) = plan_right plan slots
-  first_right (Ask moment subscriber cost) = refused_right unreadable t
-  first_right Unreadable = refused_right unreadable t
+  first_right (Some (Plan slots plan)) = plan_right plan slots
+  first_right (Some (Ask moment subscriber cost)) = refused_right NoPlan t
+  first_right None = refused_right NoPlan t
 
 module _ (t : Table) where
   -- a line answered at any stage
@@ -99,21 +102,21 @@ module _ (t : Table) where
       (stage : Stage) → Fit stage t → (l : Line) → Right (answer stage (line_command l) t) (λ ls. rest stage t (l ∷ ls))
   unfolding answer rest answers run text_of
   answer_right First fit l = first_right t fit (line_command l)
-  answer_right (Open plan slots) fit l =
-      let step = turn plan (line_command l) (part slots t) in
-      open_right plan slots t fit (Numbers step.answer) step.after (turn_lengths plan (line_command l) (part slots t))
+  answer_right (Open o) fit l =
+      let step = turn o.plan (line_command l) (part o.slots t) in
+      open_right o t fit (Some step.answer) step.after (turn_lengths o.plan (line_command l) (part o.slots t))
   answer_right Over fit l = record { says = λ ls. refl; fits = tt }
 
   -- the last line, if it lacks its LF
   pub unended_right : (stage : Stage) (p : List ℕ) → text_of (unended stage) ≡ rest stage t (unended_line p ∷ [])
-  unfolding unended rest answers run begun opening turn text_of
+  unfolding unended rest answers run begun number_of opening turn text_of
   unended_right First p = rw (unended_says_nothing p)
-  unended_right (Open plan slots) p = rw (unended_says_nothing p) (sym (append-nil (line (refusal unreadable))))
+  unended_right (Open o) p = rw (unended_says_nothing p) (sym (append-nil (line (refusal unreadable))))
   unended_right Over p = refl
 
   -- and if there is none
   pub rest_none : (stage : Stage) → rest stage t [] ≡ []
   unfolding rest answers run
   rest_none First = refl
-  rest_none (Open plan slots) = refl
+  rest_none (Open o) = refl
   rest_none Over = refl

@@ -1,12 +1,11 @@
 -- The same, byte by byte, as a program in constant memory does it: it keeps the unfinished line, at most 128 bytes of it, and
 -- answers each line at its LF.
-use Rattle.std.specs.Prelude.{ℕ, ◌+◌, Bool, true, false, cond, List, [], ◌∷◌, ◌++◌, eqb, take}
+use Rattle.std.specs.Prelude.{ℕ, ◌+◌, Bool, true, false, cond, List, [], ◌∷◌, ◌++◌, eqb, take, Option, Some, None}
 use Rattle.table_gcra.specs.Table.{Table}
 use Rattle.text_tsv.specs.Text.{lf}
 use Rattle.text_protocol.specs.Command.{most_line, line_command}
 use Rattle.text_protocol.specs.Reply.{line}
-use Rattle.text_session.specs.declared.Reply.{Reply}
-use Rattle.text_session.specs.declared.Reply.TheVariants.{Nothing, Numbers}
+use Rattle.rate.specs.declared.answer.Numbers as numbers
 use Rattle.text_session.specs.declared.Stage.{Stage}
 use Rattle.text_session.specs.declared.Stage.TheVariants.{First}
 use Rattle.text_session.specs.Session.{Told, answer, unended}
@@ -18,9 +17,9 @@ pub record State : Type 0 where
   pub held : List ℕ
 
 -- the bytes of a reply
-unfoldable pub text_of : Reply → List ℕ
-text_of Nothing = []
-text_of (Numbers n) = line n
+unfoldable pub text_of : Option numbers.Numbers → List ℕ
+text_of None = []
+text_of (Some n) = line n
 
 -- more bytes of the unfinished line, of which 128 are kept: with its LF, a line of that many is too long
 abbrev pub kept : State → List ℕ → State

@@ -2,12 +2,18 @@
 // but the columns and the newest moment.
 #![tactic(auto)]
 
-ghost use Rattle.std.specs.Prelude.{◌≡◌, ◌&&◌, leb};
-ghost use Rattle.table_gcra.specs.Table.{table_of};
-ghost use Rattle.text_session.specs.Session.{opening, text_slots, first, other, answer, unended, Lent, Room, Bounded, told_of};
+ghost use Rattle.std.specs.Prelude.{◌≡◌, ◌≤◌, ◌&&◌, leb, Some, IfOk};
+ghost use Rattle.text_protocol.specs.declared.command.Command.TheVariants.{Ask};
+ghost use Rattle.text_session.specs.Session.{text_slots, number_of, opening, first, turn, part, back, other, answer, unended, Bounded, told_of};
+ghost use Rattle.text_session.specs.Store.{table_in, SameLoan};
 
-use rate::answer;
+mod part; // the first slots of the columns, as a table
+pub mod store; // the columns and the newest moment that a run is lent
+
+use crate::store::Store;
+use plans::Setting;
 use rate::answer::{Numbers, Reason};
+use table::request::{Query, Request};
 use text_protocol::command::Command;
 use text_protocol::reply;
 use text_protocol::reply::UNREADABLE;
@@ -17,169 +23,183 @@ use ticks::units::Millis;
 // The most slots in the program.
 pub const TEXT_SLOTS: usize = 1024;
 
+// What a good first line opens a run with. That it has no more slots than a run is no fact of the type: the definitions and their laws
+// speak of any.
+#[derive(Clone, Copy)]
+pub struct Opened {
+    pub plan: Plan,
+    pub slots: usize,
+}
+
+// Why a first line ends the run: it is no plan, or it is one that is refused.
+#[derive(Clone, Copy)]
+pub enum Refusal {
+    NoPlan,
+    Because(Reason),
+}
+
 // Before the first line; after a good one; after a bad one, which ends the run.
 #[derive(Clone, Copy)]
 pub enum Stage {
     First,
-    Open { plan: Plan, slots: usize },
+    Open(Opened),
     Over,
 }
 
-// What the first line comes to: a number, which ends the run, or a plan and its slots.
-#[derive(Clone, Copy)]
-pub enum Opening {
-    Refused(u64),
-    Opened { plan: Plan, slots: usize },
-}
-
-// What a line gets: no answer, or five numbers.
-#[derive(Clone, Copy)]
-pub enum Reply {
-    Nothing,
-    Numbers(Numbers),
-}
-
-// What a line leads to, and what it gets.
+// What a line leads to, and what it gets: no answer, or five numbers.
 #[derive(Clone, Copy)]
 pub struct Turn {
     pub stage: Stage,
-    pub reply: Reply,
+    pub reply: Option<Numbers>,
 }
 
-// Whether a plan may have so many slots here.
+// The number that the line is answered.
+impl From<Refusal> for u64 {
+    ghost from_gives = { λ refusal number. number ≡ number_of refusal };
+
+    #[tactic(auto, unfolding(crate::specs::Session::number_of))]
+    fn from(refusal: Refusal) -> u64 {
+        match refusal {
+            Refusal::NoPlan => UNREADABLE,
+            Refusal::Because(reason) => u64::from(reason),
+        }
+    }
+}
+
+// Whether a plan may have so many slots here: a limit of document 01's program, apart from the table's (`is_slot_count`).
 fn is_text_slots(slots: usize) -> bool
     ensures { result ≡ (leb 1 slots && leb slots text_slots) }
 {
-    if slots < 1 {
-        return false;
-    }
-    slots <= TEXT_SLOTS
+    (1..=TEXT_SLOTS).contains(&slots)
 }
 
 // What the first line comes to.
-fn open(command: Command) -> Opening
-    ensures { result ≡ opening command }
+#[tactic(auto, unfolding(crate::specs::Session::opening))]
+fn open(command: Option<Command>) -> Result<Opened, Refusal>
+    ensures opening { result ≡ opening command }
+    ensures within { IfOk result (λ o. o.slots ≤ text_slots) }
 {
-    let Command::Plan { slots, plan } = command else {
-        return Opening::Refused(UNREADABLE);
+    let Command::Plan { slots, plan } = command.ok_or(Refusal::NoPlan)? else {
+        return Err(Refusal::NoPlan);
     };
     if !plan.is_ok() {
-        return Opening::Refused(answer::reason_number(Reason::BadPlan));
+        return Err(Refusal::Because(Reason::BadPlan));
     }
     let slots = slots as usize;
     if !is_text_slots(slots) {
-        return Opening::Refused(answer::reason_number(Reason::BadTable));
+        return Err(Refusal::Because(Reason::BadTable));
     }
-    Opening::Opened { plan, slots }
+    Ok(Opened { plan, slots })
 }
 
 // The first line.
-fn first(
-    command: Command,
-    ids: &mut [u32],
-    numbers: &mut [u8],
-    tats: &mut [u64],
-    newest: &mut u64,
-) -> Turn
-    requires { Lent ids.old numbers.old tats.old }
-    ensures { told_of result (table_of ids.new numbers.new tats.new newest.new)
-        ≡ first (opening command) (table_of ids.old numbers.old tats.old newest.old) }
+#[tactic(auto, unfolding(crate::specs::Session::first))]
+fn first(command: Option<Command>, store: &mut Store<'_>) -> Turn
+    ensures loan { SameLoan store.old store.new }
+    ensures told { told_of result (table_in store.new) ≡ first (opening command) (table_in store.old) }
 {
     match open(command) {
-        Opening::Refused(number) => Turn {
+        Err(refusal) => Turn {
             stage: Stage::Over,
-            reply: Reply::Numbers(reply::refusal(number)),
+            reply: Some(reply::refusal(u64::from(refusal))),
         },
-        Opening::Opened { plan, slots } => {
-            table_gcra::clear(
-                &mut ids[..slots],
-                &mut numbers[..slots],
-                &mut tats[..slots],
-                newest,
+        Ok(opened) => {
+            // so many slots are a table: the clear is not refused
+            let _ = part::clear(
+                &mut store.ids[..opened.slots],
+                &mut store.numbers[..opened.slots],
+                &mut store.tats[..opened.slots],
+                store.newest,
             );
             Turn {
-                stage: Stage::Open { plan, slots },
-                reply: Reply::Nothing,
+                stage: Stage::Open(opened),
+                reply: None,
             }
         }
     }
 }
 
-// Any other line of an open run.
-fn other(
-    plan: Plan,
-    slots: usize,
-    command: Command,
-    ids: &mut [u32],
-    numbers: &mut [u8],
-    tats: &mut [u64],
-    newest: &mut u64,
-) -> Turn
-    requires { Room slots ids.old numbers.old tats.old }
-    ensures { told_of result (table_of ids.new numbers.new tats.new newest.new)
-        ≡ other plan slots command (table_of ids.old numbers.old tats.old newest.old) }
+// An ask of an open run, under its plan, which is the only one that is lent. The three numbers are those of a `Command::Ask`, a variant
+// that cannot be handed on by itself.
+#[tactic(auto, using(plans::proofs::Lent::lent_one), unfolding(crate::specs::Session::turn))]
+fn ask(opened: Opened, moment: u64, subscriber: u32, cost: u32, store: &mut Store<'_>) -> Numbers
+    requires { opened.slots ≤ text_slots }
+    ensures loan { SameLoan store.old store.new }
+    ensures answer { result
+        ≡ (turn opened.plan (Some (Ask moment subscriber cost)) (part opened.slots (table_in store.old))).answer }
+    ensures after { table_in store.new ≡ back opened.slots (table_in store.old)
+        (turn opened.plan (Some (Ask moment subscriber cost)) (part opened.slots (table_in store.old))).after }
 {
-    let Command::Ask {
-        moment,
-        subscriber,
-        cost,
-    } = command
-    else {
-        return Turn {
-            stage: Stage::Open { plan, slots },
-            reply: Reply::Numbers(reply::refusal(UNREADABLE)),
-        };
-    };
+    let plan = opened.plan;
     let plans = [plan.limit, plan.period, plan.burst];
-    let moment = Millis(moment);
-    let told = table_gcra::acquire(
-        &plans,
-        &mut ids[..slots],
-        &mut numbers[..slots],
-        &mut tats[..slots],
-        newest,
-        moment,
+    let query = Query {
+        setting: Setting {
+            plans: &plans,
+            number: 0,
+        },
+        moment: Millis(moment),
         subscriber,
-        0,
-        cost,
+    };
+    let told = part::acquire(
+        &mut store.ids[..opened.slots],
+        &mut store.numbers[..opened.slots],
+        &mut store.tats[..opened.slots],
+        store.newest,
+        &Request { query, cost },
     );
-    Turn {
-        stage: Stage::Open { plan, slots },
-        reply: Reply::Numbers(told.to_numbers()),
+    Numbers::from(told)
+}
+
+// Any other line of an open run.
+#[tactic(auto, using(crate::proofs::Columns::back_same), unfolding(crate::specs::Session::turn))]
+fn other(opened: Opened, command: Option<Command>, store: &mut Store<'_>) -> Turn
+    requires { opened.slots ≤ text_slots }
+    ensures loan { SameLoan store.old store.new }
+    ensures told { told_of result (table_in store.new) ≡ other opened command (table_in store.old) }
+{
+    let stage = Stage::Open(opened);
+    match command {
+        Some(
+            Command::Ask {
+                moment,
+                subscriber,
+                cost,
+            },
+        ) => Turn {
+            stage,
+            reply: Some(ask(opened, moment, subscriber, cost, store)),
+        },
+        _ => Turn {
+            stage,
+            reply: Some(reply::refusal(UNREADABLE)),
+        },
     }
 }
 
 // A line answered.
-pub fn answer(
-    stage: Stage,
-    command: Command,
-    ids: &mut [u32],
-    numbers: &mut [u8],
-    tats: &mut [u64],
-    newest: &mut u64,
-) -> Turn
-    requires lent { Lent ids.old numbers.old tats.old }
+#[tactic(auto, unfolding(crate::specs::Session::answer, crate::specs::Session::slots_of))]
+pub fn answer(stage: Stage, command: Option<Command>, store: &mut Store<'_>) -> Turn
     requires bounded { Bounded stage }
-    ensures { told_of result (table_of ids.new numbers.new tats.new newest.new)
-        ≡ answer stage command (table_of ids.old numbers.old tats.old newest.old) }
+    ensures loan { SameLoan store.old store.new }
+    ensures told { told_of result (table_in store.new) ≡ answer stage command (table_in store.old) }
 {
     match stage {
-        Stage::First => first(command, ids, numbers, tats, newest),
-        Stage::Open { plan, slots } => other(plan, slots, command, ids, numbers, tats, newest),
+        Stage::First => first(command, store),
+        Stage::Open(opened) => other(opened, command, store),
         Stage::Over => Turn {
             stage: Stage::Over,
-            reply: Reply::Nothing,
+            reply: None,
         },
     }
 }
 
 // What a last line without LF gets.
-pub fn unended(stage: Stage) -> Reply
+#[tactic(auto, unfolding(crate::specs::Session::unended))]
+pub fn unended(stage: Stage) -> Option<Numbers>
     ensures { result ≡ unended stage }
 {
     match stage {
-        Stage::First => Reply::Numbers(reply::refusal(UNREADABLE)),
-        Stage::Open { plan: _, slots: _ } => Reply::Numbers(reply::refusal(UNREADABLE)),
-        Stage::Over => Reply::Nothing,
+        Stage::First | Stage::Open(_) => Some(reply::refusal(UNREADABLE)),
+        Stage::Over => None,
     }
 }

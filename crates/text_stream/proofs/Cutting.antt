@@ -15,14 +15,17 @@ use Rattle.text_session.specs.Transcript.{transcript}
 use Rattle.text_session.proofs.LineEnds.{ending_any}
 use Rattle.text_session.proofs.Streamed.{said_append, after_append, streamed}
 use Rattle.text_session.proofs.Turning.{bounded_first}
-use Rattle.text_stream.specs.declared.Session.{Session}
-use Rattle.text_stream.specs.declared.Fed.{Fed}
-use Rattle.text_stream.specs.Running.{Ready, Moved, state_of, started, no_table, ending_of}
+use Rattle.text_stream.specs.declared.Stream.{Stream}
+use Rattle.text_stream.specs.Running.{Session, Fed, Ready, Moved, session_of, state_of, started, no_table, ending_of}
 
 -- a line's buffer for a session that starts
 pub ready_start : (s : Session) (line : List ℕ) → s ≡ started → 128 ≤ length line → Ready s line
 ready_start s line e h =
     subst (λ (x : Session). Ready x line) (sym e) (record { bounded = bounded_first; held_within = omega arith; line_enough = h })
+
+-- a stream is ready
+pub ready_in : (s : Stream) → Ready (session_of s) s.line
+ready_in s = record { bounded = s.bounded; held_within = s.held_within; line_enough = s.line_enough }
 
 pub cut :
     (σ : State) (p q : List ℕ) {at : ℕ} {r r' : Fed} {line line' : List ℕ} {t t' : Table} {out out' out'' : List ℕ} →

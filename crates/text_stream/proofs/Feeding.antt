@@ -1,22 +1,29 @@
 -- A piece fed line by line: what is still to be said and where it leads, from where the loop stands, is what the whole piece
 -- says and leads to.
 -- Assumes nothing.
-use mathlib.Core.Path.{◌≡◌, sym, ap, ◌∙◌}
-use mathlib.Core.List.{List, ◌++◌}
-use Prim.Native.Nat.{ℕ, ◌+◌, ◌-◌, ◌≤◌, ◌<◌}
+use mathlib.Core.Path.{◌≡◌, sym, ap, ap₂, subst, ◌∙◌}
+use mathlib.Core.Logic.{◌≢◌}
+use mathlib.Core.List.{List, [], ◌∷◌, ◌++◌, append_assoc, append-nil}
+use Prim.Native.Nat.{ℕ, ◌+◌, ◌-◌, ◌≤◌, ◌<◌, min}
 use native.Mathlib.Omega.{arith}
-use lib.ListN.{length, take, drop, length-append, length-take}
-use lib.Seq.{sets, length-sets}
+use lib.Dec.{eqb}
+use lib.ListN.{length, take, drop, length-append, length-drop, length-take}
+use lib.Seq.{sets, length-sets, drop-drop, take_all, take-append_seam}
+use Rattle.std.specs.List.{IsFirstMatchOrLen}
+use Rattle.std.proofs.lemmas.List.{nil_from_length}
+use Rattle.std.proofs.Common.{drop_of_length-le}
+use Rattle.std.proofs.Math.Seq.{drop-append-add}
+use Rattle.text_session.proofs.Streamed.{said_none, after_none}
+use Rattle.text_stream.proofs.Parts.{line_place, rest_place}
 use Rattle.table_gcra.specs.Table.{Table}
 use Rattle.text_tsv.specs.Text.{lf, up_to}
-use Rattle.text_tsv.proofs.Scanning.{sets_append}
+use Rattle.text_tsv.proofs.Scanning.{sets_append, first_place}
 use Rattle.text_protocol.specs.Command.{most_line}
+use Rattle.text_session.specs.declared.Stage.{Stage}
 use Rattle.text_session.specs.Session.{Lent}
 use Rattle.text_session.specs.Stream.{State, kept, says, said, moved, after}
 use Rattle.text_session.proofs.LineEnds.{line_said, line_after, none_said, none_after}
-use Rattle.text_stream.specs.declared.Session.{Session}
-use Rattle.text_stream.specs.declared.Fed.{Fed}
-use Rattle.text_stream.specs.Running.{Ready, Moved, state_of}
+use Rattle.text_stream.specs.Running.{Session, Fed, Ready, Moved, state_of}
 
 module _ (σ₀ : State) (piece out₀ : List ℕ) (at : ℕ) where
   pub record Going (s : Session) (line : List ℕ) (t : Table) (out : List ℕ) (w i : ℕ) : Type 0 where
@@ -81,17 +88,132 @@ module _ {σ₀ : State} {piece out₀ : List ℕ} {at : ℕ} {s : Session} {lin
 
   -- the rest of the piece ends no line, and is held
   pub going_end :
-      {held : ℕ} {line' : List ℕ} → length piece ≤ end → held ≤ most_line → length line' ≡ length line →
-      take held line' ≡ take most_line (take s.held line ++ take (end - i) (drop i piece)) →
-      Moved (said σ₀ piece) (after σ₀ piece) at (record { session = record { stage = s.stage; held = held }; at = w }) line' t out₀ out
-  going_end {held} {line'} h within same kept_is =
+      (s' : Session) (line' : List ℕ) → length piece ≤ end → Ready s' line' → s'.stage ≡ s.stage →
+      take s'.held line' ≡ take most_line (take s.held line ++ take (end - i) (drop i piece)) →
+      Moved (said σ₀ piece) (after σ₀ piece) at (record { session = s'; at = w }) line' t out₀ out
+  going_end s' line' h ready same kept_is =
       let none = none_said piece i found g.inside σ short h in
       record {
         state_is =
-            ap (λ (l : List ℕ). record { stage = s.stage; table = σ.table; held = l }) kept_is
+            ap₂ (λ (x : Stage) (l : List ℕ). record { stage = x; table = σ.table; held = l }) same kept_is
             ∙ sym (none_after piece i found g.inside σ short h) ∙ g.leads;
         at_is = omega (arith, g.place, ap (λ (l : List ℕ). length l) none);
         out_is = sym (ap (λ (l : List ℕ). sets out w l) none) ∙ g.writes;
-        ready = record { bounded = g.ready.bounded; held_within = within; line_enough = omega (arith, g.ready.line_enough) };
+        ready = ready;
         lent = g.lent;
       }
+
+-- a piece that was fed
+going_done :
+    {σ₀ : State} {piece out₀ : List ℕ} {at : ℕ} {s : Session} {line : List ℕ} {t : Table} {out : List ℕ} {w : ℕ} →
+    Moved (said σ₀ piece) (after σ₀ piece) at (record { session = s; at = w }) line t out₀ out →
+    Going σ₀ piece out₀ at s line t out w (length piece)
+going_done {σ₀} {piece} {out₀} {at} {s} {line} {t} {out} {w} m =
+    let σ = state_of s line t in
+    let none : drop (length piece) piece ≡ [] = drop_of_length-le piece (omega arith) in
+    let quiet = ap (λ (l : List ℕ). said σ l) none ∙ said_none σ in
+    record {
+      leads = ap (λ (l : List ℕ). after σ l) none ∙ after_none σ ∙ m.state_is;
+      writes = ap (λ (l : List ℕ). sets out w l) quiet ∙ m.out_is;
+      place = omega (arith, m.at_is, ap (λ (l : List ℕ). length l) quiet);
+      long_as = ap (λ (l : List ℕ). length l) m.out_is ∙ length-sets out₀ at (said σ₀ piece);
+      ready = m.ready;
+      lent = m.lent;
+      inside = omega arith;
+    }
+
+-- a piece of which parts were fed, and these bytes are left
+pub record Parted (σ₀ : State) (piece out₀ : List ℕ) (at : ℕ) (s : Session) (line : List ℕ) (t : Table) (out : List ℕ) (w : ℕ) (left : List ℕ) : Type 0 where
+  pub i : ℕ
+  pub left_is : left ≡ drop i piece
+  pub going : Going σ₀ piece out₀ at s line t out w i
+
+module _ {σ₀ : State} {piece out₀ : List ℕ} {at : ℕ} {s : Session} {line : List ℕ} {t : Table} {out : List ℕ} {w : ℕ} {left : List ℕ}
+    (p : Parted σ₀ piece out₀ at s line t out w left) where
+  -- nothing is left
+  pub parted_end : length left ≡ 0 → Moved (said σ₀ piece) (after σ₀ piece) at (record { session = s; at = w }) line t out₀ out
+  parted_end h =
+      let σ = state_of s line t in
+      let g = p.going in
+      let none : drop p.i piece ≡ [] = sym p.left_is ∙ nil_from_length left h in
+      let quiet = ap (λ (l : List ℕ). said σ l) none ∙ said_none σ in
+      record {
+        state_is = sym (after_none σ) ∙ ap (λ (l : List ℕ). after σ l) (sym none) ∙ g.leads;
+        at_is = omega (arith, g.place, ap (λ (l : List ℕ). length l) quiet);
+        out_is = sym (ap (λ (l : List ℕ). sets out w l) quiet) ∙ g.writes;
+        ready = g.ready;
+        lent = g.lent;
+      }
+
+  module _ (part rest : List ℕ) (e : ℕ) (cut : left ≡ part ++ rest) (long : length part ≡ min (e + 1) (length left))
+      (first : IsFirstMatchOrLen (λ x. eqb x lf) left e) where
+    -- a line and its LF
+    module _ (l : List ℕ) (ends : part ≡ l ++ (lf ∷ [])) where
+      whole : drop p.i piece ≡ l ++ (lf ∷ rest)
+      whole = sym p.left_is ∙ cut ∙ ap (λ (m : List ℕ). m ++ rest) ends ∙ append_assoc l (lf ∷ []) rest
+
+      place : p.i + length l ≡ p.i + length (up_to lf (drop p.i piece))
+      place =
+          ap (λ (n : ℕ). p.i + n)
+          (line_place left l rest e (p.left_is ∙ whole) (omega (arith, long, ap (λ (m : List ℕ). length m) ends, length-append l (lf ∷ []))) first
+          ∙ ap (λ (m : List ℕ). length (up_to lf m)) p.left_is)
+
+      line_is : take (p.i + length l - p.i) (drop p.i piece) ≡ l
+      line_is =
+          ap (λ (n : ℕ). take n (drop p.i piece)) {x = p.i + length l - p.i} {y = length l} (omega arith)
+          ∙ ap (λ (m : List ℕ). take (length l) m) whole ∙ take-append_seam l (lf ∷ rest)
+
+      within : p.i + length l < length piece
+      within = omega (arith, p.going.inside, length-drop p.i piece, ap (λ (m : List ℕ). length m) whole, length-append l (lf ∷ rest))
+
+      rest_is : rest ≡ drop (p.i + length l + 1) piece
+      rest_is =
+          sym (ap (λ (m : List ℕ). drop (length l + 1) m) whole ∙ drop-append-add l (lf ∷ rest) 1)
+          ∙ drop-drop (length l + 1) p.i piece
+          ∙ ap (λ (n : ℕ). drop n piece) {x = p.i + (length l + 1)} {y = p.i + length l + 1} (omega arith)
+
+      pub parted_room :
+          at + length (said σ₀ piece) ≤ length out₀ → w + length (says (kept (state_of s line t) l) lf) ≤ length out
+      parted_room fits =
+          subst (λ (m : List ℕ). w + length (says (kept (state_of s line t) m) lf) ≤ length out) line_is
+          (going_room p.going place within fits)
+
+      pub parted_next :
+          {r : Fed} {line' : List ℕ} {t' : Table} {out' : List ℕ} →
+          Moved (says (kept (state_of s line t) l) lf) (moved (kept (state_of s line t) l) lf) w r line' t' out out' →
+          Parted σ₀ piece out₀ at r.session line' t' out' r.at rest
+      parted_next {r} {line'} {t'} {out'} m =
+          record {
+            i = p.i + length l + 1;
+            left_is = rest_is;
+            going = going_next p.going place within
+                (subst (λ (k : List ℕ). Moved (says (kept (state_of s line t) k) lf) (moved (kept (state_of s line t) k) lf) w r line' t' out out') (sym line_is) m);
+          }
+
+    -- the rest of the piece, which ends no line
+    module _ (unended : (front : List ℕ) → part ≢ front ++ (lf ∷ [])) where
+      far : length left ≤ e
+      far = rest_place left part rest e cut long first unended
+
+      ended_at : length piece ≡ p.i + length (up_to lf (drop p.i piece))
+      ended_at =
+          omega (arith, far, p.going.inside, length-drop p.i piece, ap (λ (m : List ℕ). length m) p.left_is, first_place lf left e first, ap (λ (m : List ℕ). length (up_to lf m)) p.left_is)
+
+      none_left : rest ≡ []
+      none_left = nil_from_length rest (omega (arith, far, long, ap (λ (m : List ℕ). length m) cut, length-append part rest))
+
+      part_is : part ≡ take (length piece - p.i) (drop p.i piece)
+      part_is =
+          sym (append-nil part) ∙ ap (λ (m : List ℕ). part ++ m) (sym none_left) ∙ sym cut ∙ p.left_is
+          ∙ sym (take_all (length piece - p.i) (drop p.i piece) (omega (arith, length-drop p.i piece)))
+
+      pub parted_rest :
+          (s' : Session) (line' : List ℕ) → Ready s' line' → s'.stage ≡ s.stage →
+          take s'.held line' ≡ take most_line (take s.held line ++ part) → Parted σ₀ piece out₀ at s' line' t out w rest
+      parted_rest s' line' ready same kept_is =
+          record {
+            i = length piece;
+            left_is = none_left ∙ sym (drop_of_length-le piece (omega arith));
+            going = going_done (going_end p.going ended_at s' line' (omega arith) ready same
+                (kept_is ∙ ap (λ (m : List ℕ). take most_line (take s.held line ++ m)) part_is));
+          }

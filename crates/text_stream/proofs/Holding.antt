@@ -43,9 +43,6 @@ module _ (line more : List ℕ) (held : ℕ) {count : ℕ} (within : held ≤ mo
   pub count_fits : held + length (take count more) ≤ length line
   count_fits = omega (arith, count_length)
 
-  pub hold_most : held + length (take count more) ≤ most_line
-  hold_most = omega (arith, count_length)
-
   pub hold_is :
       take (held + length (take count more)) (sets line held (take count more)) ≡ take most_line (take held line ++ more)
   hold_is =
@@ -66,6 +63,10 @@ pub read_here :
 read_here line rest e = rw e (sym (cut_off rest))
 
 module _ (σ : State) (r : Turn) {t : Table} (told : told_of r t ≡ at_lf σ) where
+  pub told_bounded : Bounded σ.stage → Bounded r.stage
+  told_bounded bounded =
+      subst (λ (x : Stage). Bounded x) (sym (ap (λ (d : Told). d.stage) told)) (answer_bounded σ.stage _ σ.table bounded)
+
   pub reply_room : (at : ℕ) {room : ℕ} → at + length (says σ lf) ≤ room → at + length (text_of r.reply) ≤ room
   reply_room at {room} h = subst (λ (l : List ℕ). at + length l ≤ room) (sym (says_reply σ told)) h
 
@@ -81,20 +82,9 @@ module _ (σ : State) (r : Turn) {t : Table} (told : told_of r t ≡ at_lf σ) w
         out_is = put.1 ∙ ap (λ (l : List ℕ). sets out at l) text;
         ready =
             record {
-              bounded = subst (λ (x : Stage). Bounded x) (sym (ap (λ (d : Told). d.stage) told)) (answer_bounded σ.stage _ σ.table bounded);
+              bounded = told_bounded bounded;
               held_within = omega arith;
               line_enough = enough;
             };
         lent = lent;
       }
-
--- columns of the same lengths are lent too
-pub lent_as :
-    {ids numbers tats ids' numbers' tats' : List ℕ} → length ids' ≡ length ids → length numbers' ≡ length numbers →
-    length tats' ≡ length tats → Lent ids numbers tats → Lent ids' numbers' tats'
-lent_as i n t lent =
-    record {
-      in_ids = omega (arith, lent.in_ids);
-      in_numbers = omega (arith, lent.in_numbers);
-      in_tats = omega (arith, lent.in_tats);
-    }

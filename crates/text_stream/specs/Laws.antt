@@ -1,16 +1,14 @@
--- The laws of a session that is fed piece by piece (document 01, 'The tabbed text').
+-- The laws of a stream that is fed piece by piece (document 01, 'The tabbed text'), by the session that it stands for and the bytes of its line.
 use Rattle.std.specs.Prelude.{◌≡◌, List, ◌++◌, ℕ, ◌≤◌, length}
 use Rattle.table_gcra.specs.Table.{Table}
 use Rattle.text_protocol.specs.Reply.{header}
 use Rattle.text_session.specs.Session.{Lent}
 use Rattle.text_session.specs.Stream.{State, said, after, start}
 use Rattle.text_session.specs.Transcript.{transcript}
-use Rattle.text_stream.specs.declared.Session.{Session}
-use Rattle.text_stream.specs.declared.Fed.{Fed}
-use Rattle.text_stream.specs.Running.{Ready, Moved, state_of, started, ending_of}
+use Rattle.text_stream.specs.Running.{Session, Fed, Ready, Moved, state_of, started, ending_of}
 
 pub record StreamLaws : Type 0 where
-  -- a session starts before the first byte, with any buffer of 128 bytes for the unfinished line, and never holds more
+  -- a session starts before the first byte, whatever stands in the line's bytes, of which there are 128, and never holds more
   pub starts : (line : List ℕ) (t : Table) → state_of started line t ≡ start t
   pub ready_start : (line : List ℕ) → 128 ≤ length line → Ready started line
   pub held_most : {s : Session} {line : List ℕ} → Ready s line → s.held ≤ 128

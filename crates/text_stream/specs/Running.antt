@@ -1,13 +1,29 @@
--- What the functions over a running session require and promise.
+-- What the functions of a stream require and promise, and the session that it stands for: all but the line's bytes.
 use Rattle.std.specs.Prelude.{◌≡◌, List, [], ℕ, ◌+◌, ◌≤◌, length, take}
 use Rattle.std.proofs.lemmas.List.Edits.{sets}
 use Rattle.table_gcra.specs.Table.{Table, table_of}
 use Rattle.text_protocol.specs.Command.{most_line}
+use Rattle.text_session.specs.declared.Stage.{Stage}
 use Rattle.text_session.specs.declared.Stage.TheVariants.{First}
 use Rattle.text_session.specs.Session.{Lent, Bounded}
 use Rattle.text_session.specs.Stream.{State, ending}
-use Rattle.text_stream.specs.declared.Session.{Session}
-use Rattle.text_stream.specs.declared.Fed.{Fed}
+use Rattle.text_stream.specs.declared.Stream.{Stream}
+
+-- how far a run has come: its stage, and how many bytes of the unfinished line are held
+pub record Session : Type 0 where
+  pub stage : Stage
+  pub held : ℕ
+
+-- .. after a piece of the input, and where the next byte of the output goes
+pub record Fed : Type 0 where
+  pub session : Session
+  pub at : ℕ
+
+abbrev pub session_of : Stream → Session
+session_of s = record { stage = s.stage; held = s.held }
+
+abbrev pub fed_of : Stream → ℕ → Fed
+fed_of s at = record { session = session_of s; at = at }
 
 -- the state that a session stands for
 abbrev pub state_of : Session → List ℕ → Table → State
@@ -20,6 +36,10 @@ started = record { stage = First; held = 0 }
 -- what is said at the input's end is the same whatever the table holds, so here it has no slots
 abbrev pub no_table : Table
 no_table = table_of [] [] [] 0
+
+-- the state of a stream, with the line that it holds
+abbrev pub stream_state : Stream → Table → State
+stream_state s t = state_of (session_of s) s.line t
 
 abbrev pub ending_of : Session → List ℕ → List ℕ
 ending_of s line = ending (state_of s line no_table)

@@ -2,177 +2,133 @@
 // piece and answered at its LF, and only one that goes on in the next piece is kept.
 #![tactic(auto)]
 
-ghost use Rattle.std.specs.Prelude.{◌≡◌, true, ◌++◌, ◌+◌, ◌≤◌, min, length, take};
+ghost use Rattle.std.specs.Prelude.{◌≡◌, ◌+◌, ◌≤◌, length};
 ghost use Rattle.std.proofs.lemmas.List.Edits.{sets};
-ghost use Rattle.table_gcra.specs.Table.{table_of};
-ghost use Rattle.text_tsv.specs.Text.{lf};
-ghost use Rattle.text_protocol.specs.Command.{most_line, line_command};
-ghost use Rattle.text_session.specs.Session.{Lent};
-ghost use Rattle.text_session.specs.Stream.{text_of, kept, says, said, moved, after};
-ghost use Rattle.text_stream.specs.Running.{Ready, Moved, state_of, started, ending_of};
+ghost use Rattle.text_protocol.specs.Command.{most_line};
+ghost use Rattle.text_session.specs.Session.{Bounded};
+ghost use Rattle.text_session.specs.Stream.{text_of};
 
+use rate::answer::Numbers;
 use text_protocol::command::{Command, MOST_LINE};
 use text_protocol::{command, reply};
-use text_session::{Reply, Stage};
+use text_session::Stage;
+use text_session::store::Store;
 use text_tsv::bytes;
 use text_tsv::bytes::LF;
 
-// How far a run has come: its stage, and how many bytes of the unfinished line are held.
+// How far a run has come: its stage, and what is held of the unfinished line. No heap: the line's bytes stand in fixed memory.
 #[derive(Clone, Copy)]
-pub struct Session {
+pub struct Stream {
     pub stage: Stage,
+    pub line: [u8; MOST_LINE],
     pub held: usize,
+    pub ghost bounded: { Bounded stage },
+    pub ghost held_within: { held ≤ most_line },
+    pub ghost line_enough: { most_line ≤ length line },
 }
 
-// The session after a piece of the input, and where the next byte of the output goes.
-#[derive(Clone, Copy)]
-pub struct Fed {
-    pub session: Session,
-    pub at: usize,
-}
-
-// Before the first byte.
-pub fn start() -> Session
-    ensures { result ≡ started }
-{
-    Session {
-        stage: Stage::First,
-        held: 0,
-    }
-}
-
-// Writes a reply from `at` on, and says where the next byte goes.
-fn put(out: &mut [u8], at: usize, reply: Reply) -> usize
+// Writes a reply from `at` on, and says where the next byte goes. The output and the place are no struct, as in text_protocol: each call
+// would have to promise, beside what it writes, that the struct holds the same output.
+#[tactic(auto, using(text_session::proofs::LineEnds::text_nothing, text_session::proofs::LineEnds::text_numbers))]
+fn put(out: &mut [u8], at: usize, reply: Option<Numbers>) -> usize
     requires { at + length (text_of reply) ≤ length out.old }
     ensures { (result ≡ at + length (text_of reply)) × (out.new ≡ sets out.old at (text_of reply)) }
 {
     match reply {
-        Reply::Nothing => at,
-        Reply::Numbers(numbers) => reply::put(out, at, numbers),
+        None => at,
+        Some(numbers) => reply::put(out, at, numbers),
     }
 }
 
-// The smaller of two numbers.
-fn least(a: usize, b: usize) -> usize
-    ensures { result ≡ min a b }
-{
-    if a < b {
-        return a;
-    }
-    b
-}
+impl Stream {
+    ghost use Rattle.std.specs.Prelude.{true, ◌++◌, take};
+    ghost use Rattle.text_tsv.specs.Text.{lf};
+    ghost use Rattle.text_protocol.specs.Command.{line_command};
+    ghost use Rattle.text_session.specs.Store.{table_in, SameLoan};
+    ghost use Rattle.text_session.specs.Stream.{kept, says, said, moved, after};
+    ghost use Rattle.text_stream.specs.Running.{Moved, stream_state, session_of, fed_of, started, ending_of};
 
-// Holds more bytes of the unfinished line, as many as are kept, and says how many it holds.
-fn hold(line: &mut [u8], held: usize, more: &[u8]) -> usize
-    requires { (held ≤ most_line) × (most_line ≤ length line.old) }
-    ensures line_after { take result line.new ≡ take most_line (take held line.old ++ more.now) }
-    ensures upper_bound { result ≤ most_line }
-{
-    let count = least(MOST_LINE - held, more.len());
-    bytes::put(line, held, &more[..count])
-}
-
-// What a line says that ends with these bytes: it is read where it stands, unless it began in an earlier piece.
-fn ended(line: &mut [u8], held: usize, rest: &[u8]) -> Command
-    requires { (held ≤ most_line) × (most_line ≤ length line.old) }
-    ensures { result ≡ line_command (record { bytes = take most_line (take held line.old ++ rest.now); ended = true }) }
-{
-    if held == 0 {
-        return command::read(rest);
-    }
-    let all = hold(line, held, rest);
-    command::read(&line[..all])
-}
-
-// The line that ends with these bytes is answered.
-fn end_line(
-    session: Session,
-    rest: &[u8],
-    line: &mut [u8],
-    ids: &mut [u32],
-    numbers: &mut [u8],
-    tats: &mut [u64],
-    newest: &mut u64,
-    out: &mut [u8],
-    at: usize,
-) -> Fed
-    requires ready { Ready session line.old }
-    requires lent { Lent ids.old numbers.old tats.old }
-    requires room { at + length (says (kept (state_of session line.old (table_of ids.old numbers.old tats.old newest.old)) rest.now) lf)
-        ≤ length out.old }
-    ensures { Moved
-        (says (kept (state_of session line.old
-        (table_of ids.old numbers.old tats.old newest.old)) rest.now) lf)
-        (moved (kept (state_of session line.old
-        (table_of ids.old numbers.old tats.old newest.old)) rest.now) lf)
-        at result line.new (table_of ids.new numbers.new tats.new newest.new)
-        out.old out.new }
-{
-    let command = ended(line, session.held, rest);
-    let stage = session.stage;
-    let turn = text_session::answer(stage, command, ids, numbers, tats, newest);
-    let stage = turn.stage;
-    let reply = turn.reply;
-    Fed {
-        session: Session { stage, held: 0 },
-        at: put(out, at, reply),
-    }
-}
-
-// A piece of the input.
-pub fn feed(
-    session: Session,
-    piece: &[u8],
-    line: &mut [u8],
-    ids: &mut [u32],
-    numbers: &mut [u8],
-    tats: &mut [u64],
-    newest: &mut u64,
-    out: &mut [u8],
-    at: usize,
-) -> Fed
-    requires ready { Ready session line.old }
-    requires lent { Lent ids.old numbers.old tats.old }
-    requires room { at + length (said (state_of session line.old (table_of ids.old numbers.old tats.old newest.old)) piece.now)
-        ≤ length out.old }
-    ensures { Moved
-        (said (state_of session line.old
-        (table_of ids.old numbers.old tats.old newest.old)) piece.now)
-        (after (state_of session line.old
-        (table_of ids.old numbers.old tats.old newest.old)) piece.now)
-        at result line.new (table_of ids.new numbers.new tats.new newest.new)
-        out.old out.new }
-{
-    let mut s = session;
-    let mut w = at;
-    let mut i = 0;
-    loop {
-        let end = bytes::find(piece, i, LF);
-        if piece.len() <= end {
-            let stage = s.stage;
-            let held = hold(line, s.held, &piece[i..end]);
-            break Fed {
-                session: Session { stage, held },
-                at: w,
-            };
+    // Before the first byte.
+    #[tactic(auto, using(text_session::proofs::Turning::bounded_first))]
+    pub fn start() -> Stream
+        ensures { session_of result ≡ started }
+    {
+        Stream {
+            stage: Stage::First,
+            line: [0; MOST_LINE],
+            held: 0,
         }
-        let fed = end_line(s, &piece[i..end], line, ids, numbers, tats, newest, out, w);
-        s = fed.session;
-        w = fed.at;
-        i = end + 1;
     }
-}
 
-// The input's end: a last line without LF.
-pub fn finish(session: Session, line: &[u8], out: &mut [u8], at: usize) -> usize
-    requires ready { Ready session line.now }
-    requires room { at + length (ending_of session line.now) ≤ length out.old }
-    ensures { (result ≡ at + length (ending_of session line.now))
-        × (out.new ≡ sets out.old at (ending_of session line.now)) }
-{
-    if session.held == 0 {
-        return at;
+    // Holds more bytes of the unfinished line, as many as are kept.
+    #[tactic(auto, using(crate::proofs::Holding::hold_is))]
+    fn hold(&mut self, more: &[u8])
+        ensures line_after { take self.new.held self.new.line ≡ take most_line (take self.old.held self.old.line ++ more.now) }
+        ensures same_stage { self.new.stage ≡ self.old.stage }
+    {
+        let count = (MOST_LINE - self.held).min(more.len());
+        self.held = bytes::put(&mut self.line, self.held, &more[..count]);
     }
-    let stage = session.stage;
-    put(out, at, text_session::unended(stage))
+
+    // What a line says that ends with these bytes: it is read where it stands, unless it began in an earlier piece.
+    #[tactic(auto, using(crate::proofs::Holding::read_here))]
+    fn ended(&mut self, rest: &[u8]) -> Option<Command>
+        ensures says { result
+            ≡ line_command (record { bytes = take most_line (take self.old.held self.old.line ++ rest.now); ended = true }) }
+        ensures same_stage { self.new.stage ≡ self.old.stage }
+    {
+        if self.held == 0 {
+            return command::read(rest);
+        }
+        self.hold(rest);
+        command::read(&self.line[..self.held])
+    }
+
+    // The line that ends with these bytes is answered, from `at` on; says where the next byte goes.
+    fn end_line(&mut self, rest: &[u8], store: &mut Store<'_>, out: &mut [u8], at: usize) -> usize
+        requires { at + length (says (kept (stream_state self.old (table_in store.old)) rest.now) lf) ≤ length out.old }
+        ensures loan { SameLoan store.old store.new }
+        ensures moved { Moved
+            (says (kept (stream_state self.old (table_in store.old)) rest.now) lf)
+            (moved (kept (stream_state self.old (table_in store.old)) rest.now) lf)
+            at (fed_of self.new result) self.new.line (table_in store.new) out.old out.new }
+    {
+        let command = self.ended(rest);
+        let turn = text_session::answer(self.stage, command, store);
+        self.stage = turn.stage;
+        self.held = 0;
+        put(out, at, turn.reply)
+    }
+
+    // A piece of the input, answered from `at` on; says where the next byte goes.
+    pub fn feed(&mut self, piece: &[u8], store: &mut Store<'_>, out: &mut [u8], at: usize) -> usize
+        requires { at + length (said (stream_state self.old (table_in store.old)) piece.now) ≤ length out.old }
+        ensures loan { SameLoan store.old store.new }
+        ensures moved { Moved
+            (said (stream_state self.old (table_in store.old)) piece.now)
+            (after (stream_state self.old (table_in store.old)) piece.now)
+            at (fed_of self.new result) self.new.line (table_in store.new) out.old out.new }
+    {
+        let mut w = at;
+        for part in piece.split_inclusive(|byte| *byte == LF) {
+            match part.strip_suffix(&[LF]) {
+                Some(line) => w = self.end_line(line, store, out, w),
+                None => self.hold(part),
+            }
+        }
+        w
+    }
+
+    // The input's end: a last line without LF, answered from `at` on; says where the next byte goes.
+    #[tactic(auto, using(text_session::proofs::LineEnds::ending_none, text_session::proofs::LineEnds::ending_some))]
+    pub fn finish(&self, out: &mut [u8], at: usize) -> usize
+        requires { at + length (ending_of (session_of self.now) self.now.line) ≤ length out.old }
+        ensures { (result ≡ at + length (ending_of (session_of self.now) self.now.line))
+            × (out.new ≡ sets out.old at (ending_of (session_of self.now) self.now.line)) }
+    {
+        if self.held == 0 {
+            return at;
+        }
+        put(out, at, text_session::unended(self.stage))
+    }
 }

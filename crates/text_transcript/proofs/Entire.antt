@@ -2,12 +2,13 @@
 -- Assumes nothing.
 use mathlib.Core.Path.{◌≡◌, ap, subst, ◌∙◌}
 use mathlib.Core.List.{List, ◌++◌}
-use Prim.Native.Nat.{ℕ, ◌+◌, ◌-◌, ◌/◌, ◌≤◌, ◌<◌}
+use Prim.Native.Nat.{ℕ, ◌+◌, ◌-◌, ◌/◌, ◌≤◌, ◌<◌, min}
 use native.Mathlib.Nat.{div-lt_iff_lt-mul, le-div_iff_mul-le}
 use native.Mathlib.Omega.{arith}
 use lib.ListN.{length, length-append}
 use lib.Seq.{sets}
-use borrow.Author.Tests.{le-leb, lt-leb}
+use borrow.Author.Tests.{le-leb, lt-leb, leb-true, leb-false}
+use Rattle.ticks.proofs.Tests.{by_leb}
 use Rattle.table_gcra.specs.Table.{Table}
 use Rattle.text_protocol.specs.Reply.{header}
 use Rattle.text_protocol.proofs.Lengths.{header_length}
@@ -16,12 +17,12 @@ use Rattle.text_session.specs.Session.{text_slots, Lent}
 use Rattle.text_session.specs.Stream.{State, said, after, start, ending, endings}
 use Rattle.text_session.specs.Transcript.{transcript}
 use Rattle.text_session.proofs.Lengths.{said_most, ending_most}
-use Rattle.text_stream.specs.declared.Session.{Session}
-use Rattle.text_stream.specs.Running.{state_of, started, ending_of}
+use Rattle.text_stream.specs.Running.{Session, state_of, started, ending_of}
 use Rattle.text_stream.proofs.Laws.{stream_laws}
-use Rattle.text_transcript.specs.declared.Transcribed.{Transcribed}
-use Rattle.text_transcript.specs.declared.Transcribed.TheVariants.{ShortTable, ShortOutput}
-use Rattle.text_transcript.specs.Whole.{room, transcribed, written, lent_of, Result}
+use Rattle.std.specs.Prelude.{Result, Err}
+use Rattle.text_transcript.specs.declared.TooShort.{TooShort}
+use Rattle.text_transcript.specs.declared.TooShort.TheVariants.{Columns, Output}
+use Rattle.text_transcript.specs.Whole.{room, transcribed, written, lent_of, Done}
 
 module _ (text out : List ℕ) (fits : room text ≤ length out) where
   pub header_fits : length header ≤ length out
@@ -64,31 +65,42 @@ put_as {l} {at} {w = w} {out = out} e p = subst (λ (x : List ℕ). Put l at x w
 
 -- the tests of `transcribe`
 module _ (text : List ℕ) (t : Table) (out : List ℕ) where
-  abbrev as_it_was : Transcribed → Result
+  abbrev pub as_it_was : Result ℕ TooShort → Done
   as_it_was answer = record { answer = answer; left = lent_of t out }
 
-  pub short_ids : length t.table.ids < text_slots → transcribed text t out ≡ as_it_was ShortTable
+  short_ids : length t.table.ids < text_slots → transcribed text t out ≡ as_it_was (Err Columns)
   unfolding transcribed
   short_ids h = rw (lt-leb _ _ h)
 
-  module _ (i : text_slots ≤ length t.table.ids) where
-    pub short_numbers : length t.numbers < text_slots → transcribed text t out ≡ as_it_was ShortTable
+  short_numbers : text_slots ≤ length t.table.ids → length t.numbers < text_slots → transcribed text t out ≡ as_it_was (Err Columns)
+  unfolding transcribed
+  short_numbers i h = rw (le-leb _ _ i, lt-leb _ _ h)
+
+  short_tats :
+      text_slots ≤ length t.table.ids → text_slots ≤ length t.numbers → length t.table.tats < text_slots →
+      transcribed text t out ≡ as_it_was (Err Columns)
+  unfolding transcribed
+  short_tats i n h = rw (le-leb _ _ i, le-leb _ _ n, lt-leb _ _ h)
+
+  -- the shortest column is too short
+  pub short_columns :
+      min (min (length t.table.ids) (length t.numbers)) (length t.table.tats) < text_slots → transcribed text t out ≡ as_it_was (Err Columns)
+  short_columns h =
+      by_leb text_slots (length t.table.ids)
+      (λ i.
+      by_leb text_slots (length t.numbers)
+      (λ n. short_tats (leb-true _ _ i) (leb-true _ _ n) (omega (arith, leb-true _ _ i, leb-true _ _ n)))
+      (λ n. short_numbers (leb-true _ _ i) (leb-false _ _ n)))
+      (λ i. short_ids (leb-false _ _ i))
+
+  module _ (i : text_slots ≤ length t.table.ids) (n : text_slots ≤ length t.numbers) (j : text_slots ≤ length t.table.tats) where
+    pub short_out : length out < room text → transcribed text t out ≡ as_it_was (Err Output)
     unfolding transcribed
-    short_numbers h = rw (le-leb _ _ i, lt-leb _ _ h)
+    short_out h = rw (le-leb _ _ i, le-leb _ _ n, le-leb _ _ j, lt-leb _ _ h)
 
-    module _ (n : text_slots ≤ length t.numbers) where
-      pub short_tats : length t.table.tats < text_slots → transcribed text t out ≡ as_it_was ShortTable
-      unfolding transcribed
-      short_tats h = rw (le-leb _ _ i, le-leb _ _ n, lt-leb _ _ h)
-
-      module _ (j : text_slots ≤ length t.table.tats) where
-        pub short_out : length out < room text → transcribed text t out ≡ as_it_was ShortOutput
-        unfolding transcribed
-        short_out h = rw (le-leb _ _ i, le-leb _ _ n, le-leb _ _ j, lt-leb _ _ h)
-
-        pub long_enough : room text ≤ length out → transcribed text t out ≡ written text t out
-        unfolding transcribed
-        long_enough h = rw (le-leb _ _ i, le-leb _ _ n, le-leb _ _ j, le-leb _ _ h)
+    pub long_enough : room text ≤ length out → transcribed text t out ≡ written text t out
+    unfolding transcribed
+    long_enough h = rw (le-leb _ _ i, le-leb _ _ n, le-leb _ _ j, le-leb _ _ h)
 
 -- the room, as a division finds it
 module _ (text out : List ℕ) {n : ℕ} (counted : n ≡ endings text) where

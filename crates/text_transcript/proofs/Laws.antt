@@ -2,12 +2,11 @@
 -- Assumes nothing.
 use mathlib.Core.Path.{◌≡◌, ap, ◌∙◌}
 use mathlib.Core.List.{List, ◌++◌}
-use Prim.Native.Nat.{ℕ, ◌+◌, ◌*◌, ◌≤◌, ◌<◌}
+use Prim.Native.Nat.{ℕ, ◌+◌, ◌*◌, ◌≤◌}
 use native.Mathlib.Omega.{arith}
 use lib.ListN.{length, drop, replicate, length-append, length-replicate}
 use lib.Seq.{sets, sets-eq}
-use borrow.Author.Tests.{leb-true, leb-false}
-use Rattle.ticks.proofs.Tests.{by_leb}
+use Rattle.std.specs.Prelude.{Ok}
 use Rattle.table_gcra.specs.Table.{Table, table_of}
 use Rattle.text_protocol.specs.Reply.{header}
 use Rattle.text_protocol.proofs.Lengths.{header_length}
@@ -16,8 +15,7 @@ use Rattle.text_session.specs.Stream.{said, after, start, ending, endings}
 use Rattle.text_session.specs.Transcript.{transcript}
 use Rattle.text_session.proofs.Lengths.{said_most, ending_most}
 use Rattle.text_session.proofs.Streamed.{streamed}
-use Rattle.text_transcript.specs.declared.Transcribed.TheVariants.{Written, ShortTable}
-use Rattle.text_transcript.specs.Whole.{transcribed, lent_of}
+use Rattle.text_transcript.specs.Whole.{lent_of}
 use Rattle.text_transcript.specs.Laws.{TranscriptLaws}
 use Rattle.text_transcript.proofs.Entire as entire
 
@@ -51,28 +49,17 @@ at_the_start text out h =
     sets-eq text out 0 (omega arith) ∙ ap (λ (k : ℕ). text ++ drop k out) same
 
 module _ (text : List ℕ) (t : Table) (out : List ℕ) where
-  short_numbers : length t.numbers < 1024 → transcribed text t out ≡ record { answer = ShortTable; left = lent_of t out }
-  short_numbers h = by_leb 1024 (length t.table.ids)
-      (λ i. entire.short_numbers text t out (leb-true _ _ i) h) (λ i. entire.short_ids text t out (leb-false _ _ i))
-
-  short_tats : length t.table.tats < 1024 → transcribed text t out ≡ record { answer = ShortTable; left = lent_of t out }
-  short_tats h = by_leb 1024 (length t.table.ids)
-      (λ i.
-      by_leb 1024 (length t.numbers)
-      (λ n. entire.short_tats text t out (leb-true _ _ i) (leb-true _ _ n) h) (λ n. entire.short_numbers text t out (leb-true _ _ i) (leb-false _ _ n)))
-      (λ i. entire.short_ids text t out (leb-false _ _ i))
-
   pub transcript_laws : TranscriptLaws text t out
   transcript_laws =
       record {
-        short_ids = entire.short_ids text t out;
-        short_numbers = short_numbers;
-        short_tats = short_tats;
+        short_ids = λ h. entire.short_columns text t out (omega arith);
+        short_numbers = λ h. entire.short_columns text t out (omega arith);
+        short_tats = λ h. entire.short_columns text t out (omega arith);
         short_output = λ i n j h. entire.short_out text t out i n j (omega (arith, h, header_length));
         whole = λ i n j h.
             entire.long_enough text t out i n j (omega (arith, h, header_length))
             ∙ ap
-            (λ (l : List ℕ). record { answer = Written (length (transcript text)); left = lent_of (after (start t) text).table l })
+            (λ (l : List ℕ). record { answer = Ok (length (transcript text)); left = lent_of (after (start t) text).table l })
             (at_the_start (transcript text) out (omega (arith, h, at_most text)));
         at_most = at_most text;
       }

@@ -1,88 +1,51 @@
 // A whole input text to the whole output text, over a table and an output that a host lends (document 01, 'The tabbed text').
 #![tactic(auto)]
 
-ghost use Rattle.std.specs.Prelude.{◌≡◌, cond, ◌+◌, ◌≤◌, eqb, length};
+ghost use Rattle.std.specs.Prelude.{◌≡◌, ◌≤◌, length};
 ghost use Rattle.std.proofs.lemmas.List.Edits.{sets};
 ghost use Rattle.table_gcra.specs.Table.{table_of};
-ghost use Rattle.text_tsv.specs.Text.{lf};
-ghost use Rattle.text_session.specs.Session.{Lent};
+ghost use Rattle.text_session.specs.Store.{table_in, SameLoan};
 ghost use Rattle.text_session.specs.Stream.{endings, after, start};
 ghost use Rattle.text_session.specs.Transcript.{transcript};
 ghost use Rattle.text_transcript.specs.Whole.{room, transcribed, lent_of};
 
-use text_protocol::command::MOST_LINE;
 use text_protocol::reply;
 use text_protocol::reply::{HEADER, MOST_REPLY};
 use text_session::TEXT_SLOTS;
+use text_session::store::Store;
+use text_stream::Stream;
 use text_tsv::bytes::LF;
 
-// How many bytes were written; or nothing was, since the columns have fewer than 1,024 slots or the output is shorter than
-// the header and a longest line for each line of the text and one more.
-#[derive(Clone, Copy)]
-pub enum Transcribed {
-    Written(usize),
-    ShortTable,
-    ShortOutput,
-}
-
-// 1 for a byte that ends a line.
-fn ends(byte: u8) -> usize
-    ensures { result ≡ cond (eqb byte lf) 1 0 }
-{
-    if byte == LF {
-        return 1;
-    }
-    0
+// Why nothing was written: a column has fewer than 1,024 slots, or the output is shorter than the header and a longest line for
+// each line of the text and one more.
+#[derive(Clone, Copy, Debug, PartialEq, Eq)]
+pub enum TooShort {
+    Columns,
+    Output,
 }
 
 // How many lines of a text end.
 fn endings(text: &[u8]) -> usize
     ensures { result ≡ endings text.now }
 {
-    let mut count = 0;
-    let mut i = 0;
-    loop {
-        if text.len() <= i {
-            break count;
-        }
-        count += ends(text[i]);
-        i += 1;
-    }
+    text.iter().filter(|byte| **byte == LF).count()
 }
 
-// The whole run over lent columns and output that are large enough.
-fn run(
-    text: &[u8],
-    ids: &mut [u32],
-    numbers: &mut [u8],
-    tats: &mut [u64],
-    newest: &mut u64,
-    out: &mut [u8],
-) -> usize
-    requires lent { Lent ids.old numbers.old tats.old }
-    requires room { room text.now ≤ length out.old }
+// The whole run over an output that is large enough.
+fn run(text: &[u8], store: &mut Store<'_>, out: &mut [u8]) -> usize
+    requires { room text.now ≤ length out.old }
+    ensures loan { SameLoan store.old store.new }
     ensures written { (result ≡ length (transcript text.now))
         × (out.new ≡ sets out.old 0 (transcript text.now)) }
-    ensures table_after { table_of ids.new numbers.new tats.new newest.new
-        ≡ (after (start (table_of ids.old numbers.old tats.old newest.old)) text.now).table }
+    ensures table_after { table_in store.new ≡ (after (start (table_in store.old)) text.now).table }
 {
-    let mut line = [0u8; MOST_LINE];
+    let mut stream = Stream::start();
     let at = reply::put_header(out);
-    let fed = text_stream::feed(
-        text_stream::start(),
-        text,
-        &mut line,
-        ids,
-        numbers,
-        tats,
-        newest,
-        out,
-        at,
-    );
-    let session = fed.session;
-    text_stream::finish(session, &line, out, fed.at)
+    let at = stream.feed(text, store, out, at);
+    stream.finish(out, at)
 }
 
+// Writes the transcript, and says how many bytes it has. It takes slices and builds the store itself, since C lends columns of any length.
 pub fn transcribe(
     text: &[u8],
     ids: &mut [u32],
@@ -90,27 +53,28 @@ pub fn transcribe(
     tats: &mut [u64],
     newest: &mut u64,
     out: &mut [u8],
-) -> Transcribed
+) -> Result<usize, TooShort>
     ensures answer { result ≡ (transcribed text.now
         (table_of ids.old numbers.old tats.old newest.old) out.old).answer }
     ensures left { lent_of (table_of ids.new numbers.new tats.new newest.new) out.new
         ≡ (transcribed text.now
         (table_of ids.old numbers.old tats.old newest.old) out.old).left }
 {
-    if ids.len() < TEXT_SLOTS {
-        return Transcribed::ShortTable;
-    }
-    if numbers.len() < TEXT_SLOTS {
-        return Transcribed::ShortTable;
-    }
-    if tats.len() < TEXT_SLOTS {
-        return Transcribed::ShortTable;
+    let slots = ids.len().min(numbers.len()).min(tats.len());
+    if slots < TEXT_SLOTS {
+        return Err(TooShort::Columns);
     }
     if out.len() < HEADER + MOST_REPLY {
-        return Transcribed::ShortOutput;
+        return Err(TooShort::Output);
     }
     if (out.len() - (HEADER + MOST_REPLY)) / MOST_REPLY < endings(text) {
-        return Transcribed::ShortOutput;
+        return Err(TooShort::Output);
     }
-    Transcribed::Written(run(text, ids, numbers, tats, newest, out))
+    let mut store = Store {
+        ids,
+        numbers,
+        tats,
+        newest,
+    };
+    Ok(run(text, &mut store, out))
 }

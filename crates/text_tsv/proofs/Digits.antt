@@ -1,7 +1,8 @@
 -- The digits of a number: those of a tenth of it and its last, or those of a hundredth and its last two; and how many they are, by the
 -- powers of ten.
 -- Assumes nothing.
-use Rattle.std.proofs.Common.{◌≡◌, ℕ, zero, suc, ◌+◌, ◌*◌, ◌/◌, ◌%◌, ◌^◌, ◌<◌, ◌≤◌, Bool, true, false, cond, ltb, ◌⊎◌, List, [], ◌∷◌, ◌++◌, length, sym, refl, ap, ◌∙◌, inl, inr, div-lt_iff_lt-mul, le-div_iff_mul-le, add-one, arith, length-append, ltb-false, ltb-true, le-ltb, lt-ltb}
+use Rattle.std.proofs.Common.{◌≡◌, ℕ, zero, suc, ◌+◌, ◌*◌, ◌/◌, ◌%◌, ◌^◌, ◌<◌, ◌≤◌, Bool, true, false, cond, ltb, ◌⊎◌, List, [], ◌∷◌, ◌++◌, length, sym, refl, ap, ◌∙◌, inl, inr, div-lt_iff_lt-mul, le-div_iff_mul-le, arith, length-append, ltb-false, ltb-true, le-ltb, lt-ltb}
+use Rattle.std.proofs.Math.Nat.{pow-suc}
 use Rattle.std.proofs.Math.Seq.{append_snoc}
 use Rattle.text_tsv.specs.Decimal.{digit, digits_up_to, digits, cell}
 
@@ -15,17 +16,13 @@ abbrev pub tens : ℕ → ℕ
 tens zero = 1
 tens (suc k) = tens k * 10
 
-pub tens_next : (k : ℕ) → tens (k + 1) ≡ 10 * tens k
-tens_next k = ap (λ (i : ℕ). tens i) (add-one k) ∙ omega arith
+tens_is : (k : ℕ) → tens k ≡ 10 ^ k
+tens_is zero = refl
+tens_is (suc k) = ap (λ (p : ℕ). p * 10) (tens_is k) ∙ sym (pow-suc 10 k)
 
 tens_some : (k : ℕ) → 1 ≤ tens k
 tens_some zero = omega arith
 tens_some (suc k) = omega (arith, tens_some k)
-
--- 10^19 fits 64 bits, and so do the powers below it
-pub tens_fit : (j k : ℕ) → k + j ≡ 19 → tens k < 2 ^ 64
-tens_fit zero k e = omega (arith, ap (λ (i : ℕ). tens i) {x = k} {y = 19} (omega arith))
-tens_fit (suc j) k e = omega (arith, tens_fit j (suc k) (omega arith))
 
 pub enough : (k n : ℕ) → n < tens (suc k) → Enough (suc k) n
 enough zero n h = inl (omega arith)
@@ -119,6 +116,16 @@ digits_below (suc (suc w)) n m h l =
     by true t r = omega (arith, digits_one n (ltb-true n 10 t))
     by false t r = omega (arith, digits_more n (ltb-false n 10 t) l)
 
+-- the whole part of a number's logarithm to the base ten is one less than it has digits
+pub digits_log :
+    (n k : ℕ) → 10 ^ k ≤ n → n < 10 * 10 ^ k → n < 2 ^ 64 → length (digits n) ≡ k + 1
+digits_log n k low high l =
+    let below : n < tens (suc k) = omega (arith, high, tens_is k) in
+    let above : tens k ≤ n = omega (arith, low, tens_is k) in
+    omega (arith, digits_above k n above l, digits_below (suc k) n (omega arith) below l)
+
 pub cell_length : (n end : ℕ) → length (cell n end) ≡ length (digits n) + 1
 unfolding cell
 cell_length n end = length-append (digits n) (end ∷ [])
+
+pub ruleset by_size = (digits_small, digits_two, digits_one)

@@ -1,9 +1,7 @@
 -- A field is read as a number exactly if it is the number's decimal and the number is at most what is allowed.
 -- Assumes nothing.
-use Rattle.std.proofs.Common.{◌≡◌, ℕ, ◌+◌, ◌-◌, ◌*◌, ◌<◌, ◌≤◌, Bool, true, false, cond, ◌&&◌, eqb, leb, List, [], ◌∷◌, ◌++◌, length, get_or, sym, refl, ap, ◌∙◌, subst, arith, eqb-true, le-leb, leb-true}
+use Rattle.std.proofs.Common.{◌≡◌, ℕ, ◌+◌, ◌-◌, ◌*◌, ◌<◌, ◌≤◌, Bool, true, false, cond, ◌&&◌, eqb, leb, List, [], ◌∷◌, ◌++◌, length, get_or, sym, refl, ap, ◌∙◌, subst, arith, eqb-true, le-leb, leb-true, Option, Some, None}
 use Rattle.std.proofs.lemmas.Bool.{false≢true, eqb-false}
-use Rattle.text_tsv.specs.declared.decimal.Number.{Number}
-use Rattle.text_tsv.specs.declared.decimal.Number.TheVariants.{Value, Unreadable}
 use Rattle.text_tsv.specs.Decimal.{is_digit, appended, more, onwards, alone, decimal, digits, cell}
 use Rattle.text_tsv.specs.Fields.{Taken, unreadable, number, taken_as, take_number}
 use Rattle.text_tsv.specs.Laws.{Digit, Digits, Without, value_from, Numeral, Front}
@@ -34,7 +32,7 @@ zero_is (b ∷ c ∷ s) l e = absurd (omega arith)
 
 module _ (most : ℕ) where
   -- digits that come to no more than is allowed are read
-  onwards_read : (v : ℕ) (s : List ℕ) → Digits s → value_from v s ≤ most → onwards most (Value v) s ≡ Value (value_from v s)
+  onwards_read : (v : ℕ) (s : List ℕ) → Digits s → value_from v s ≤ most → onwards most (Some v) s ≡ Some (value_from v s)
   unfolding onwards more appended
   onwards_read v [] d h = refl
   onwards_read v (b ∷ s) d h =
@@ -42,15 +40,15 @@ module _ (most : ℕ) where
       rw (is_digit_lem b d.0, le-leb (10 * v + (b - 48)) most w) (onwards_read (10 * v + (b - 48)) s d.1 h)
 
   -- and what is read comes of digits
-  abbrev From : ℕ → List ℕ → Number → Type 0
-  From v s Unreadable = Unit
-  From v s (Value n) = Digits s × ((value_from v s ≡ n) × (n ≤ most))
+  abbrev From : ℕ → List ℕ → Option ℕ → Type 0
+  From v s None = Unit
+  From v s (Some n) = Digits s × ((value_from v s ≡ n) × (n ≤ most))
 
-  from_next : (v b : ℕ) (s : List ℕ) (x : Number) → Digit b → From (10 * v + (b - 48)) s x → From v (b ∷ s) x
-  from_next v b s Unreadable d h = tt
-  from_next v b s (Value n) d h = ((d, h.0), h.1)
+  from_next : (v b : ℕ) (s : List ℕ) (x : Option ℕ) → Digit b → From (10 * v + (b - 48)) s x → From v (b ∷ s) x
+  from_next v b s None d h = tt
+  from_next v b s (Some n) d h = ((d, h.0), h.1)
 
-  onwards_from : (v : ℕ) (s : List ℕ) → v ≤ most → From v s (onwards most (Value v) s)
+  onwards_from : (v : ℕ) (s : List ℕ) → v ≤ most → From v s (onwards most (Some v) s)
   unfolding onwards more appended
   onwards_from v [] h = (tt, (refl, h))
   onwards_from v (b ∷ s) h =
@@ -58,20 +56,20 @@ module _ (most : ℕ) where
     where
       by :
           (t : Bool) → (is_digit b && leb (10 * v + (b - 48)) most) ≡ t →
-          (10 * v + (b - 48) ≤ most → From (10 * v + (b - 48)) s (onwards most (Value (10 * v + (b - 48))) s)) →
-          From v (b ∷ s) (onwards most (cond t (Value (10 * v + (b - 48))) Unreadable) s)
+          (10 * v + (b - 48) ≤ most → From (10 * v + (b - 48)) s (onwards most (Some (10 * v + (b - 48))) s)) →
+          From v (b ∷ s) (onwards most (cond t (Some (10 * v + (b - 48))) None) s)
       by true e r =
           let h = both (is_digit b) (leb (10 * v + (b - 48)) most) e in
-          from_next v b s (onwards most (Value (10 * v + (b - 48))) s) (digit_is b h.0) (r (leb-true (10 * v + (b - 48)) most h.1))
+          from_next v b s (onwards most (Some (10 * v + (b - 48))) s) (digit_is b h.0) (r (leb-true (10 * v + (b - 48)) most h.1))
       by false e r = subst (From v (b ∷ s)) (sym (lost most s)) tt
 
-  abbrev Good : List ℕ → Number → Type 0
-  Good f Unreadable = Unit
-  Good f (Value n) = Numeral f n × (n ≤ most)
+  abbrev Good : List ℕ → Option ℕ → Type 0
+  Good f None = Unit
+  Good f (Some n) = Numeral f n × (n ≤ most)
 
-  from_good : (b : ℕ) (s : List ℕ) (x : Number) → (b ≡ 48 → ⊥) → From 0 (b ∷ s) x → Good (b ∷ s) x
-  from_good b s Unreadable e h = tt
-  from_good b s (Value n) e h = (
+  from_good : (b : ℕ) (s : List ℕ) (x : Option ℕ) → (b ≡ 48 → ⊥) → From 0 (b ∷ s) x → Good (b ∷ s) x
+  from_good b s None e h = tt
+  from_good b s (Some n) e h = (
     record { some = omega arith; digits = h.0; no_leading_zero = λ z. absurd (e z); value = h.1.0 },
     h.1.1,
   )
@@ -94,31 +92,31 @@ module _ (most : ℕ) where
   decimal_good [] = tt
   decimal_good (b ∷ s) = by (eqb b 48) refl
     where
-      by : (t : Bool) → eqb b 48 ≡ t → Good (b ∷ s) (cond t (alone s) (onwards most (Value 0) (b ∷ s)))
+      by : (t : Bool) → eqb b 48 ≡ t → Good (b ∷ s) (cond t (alone s) (onwards most (Some 0) (b ∷ s)))
       by true e = alone_good b s (eqb-true b 48 e)
-      by false e = from_good b s (onwards most (Value 0) (b ∷ s)) (eqb-false b 48 e) (onwards_from 0 (b ∷ s) (omega arith))
+      by false e = from_good b s (onwards most (Some 0) (b ∷ s)) (eqb-false b 48 e) (onwards_from 0 (b ∷ s) (omega arith))
 
-  pub read_only : (f : List ℕ) (n : ℕ) → decimal most f ≡ Value n → Numeral f n × (n ≤ most)
+  pub read_only : (f : List ℕ) (n : ℕ) → decimal most f ≡ Some n → Numeral f n × (n ≤ most)
   read_only f n e = subst (Good f) e (decimal_good f)
 
-  pub read : (f : List ℕ) (n : ℕ) → Numeral f n → n ≤ most → decimal most f ≡ Value n
+  pub read : (f : List ℕ) (n : ℕ) → Numeral f n → n ≤ most → decimal most f ≡ Some n
   read f n x h = by (eqb (get_or f 0 0) 48) refl
     where
-      by : (t : Bool) → eqb (get_or f 0 0) 48 ≡ t → decimal most f ≡ Value n
+      by : (t : Bool) → eqb (get_or f 0 0) 48 ≡ t → decimal most f ≡ Some n
       by true e =
           let first = eqb-true (get_or f 0 0) 48 e in
           let one = x.no_leading_zero first in
-          decimal_zero most f first one ∙ ap (λ (v : ℕ). Value v) (zero_is f one first ∙ x.value)
+          decimal_zero most f first one ∙ ap (λ (v : ℕ). Some v) (zero_is f one first ∙ x.value)
       by false e =
           decimal_digits most f (λ z. absurd (omega (arith, x.some))) (eqb-false (get_or f 0 0) 48 e)
-          ∙ onwards_read 0 f x.digits (omega (arith, x.value)) ∙ ap (λ (v : ℕ). Value v) x.value
+          ∙ onwards_read 0 f x.digits (omega (arith, x.value)) ∙ ap (λ (v : ℕ). Some v) x.value
 
-  pub beyond : (f : List ℕ) (n : ℕ) → Numeral f n → most < n → decimal most f ≡ Unreadable
+  pub beyond : (f : List ℕ) (n : ℕ) → Numeral f n → most < n → decimal most f ≡ None
   beyond f n x h = by (decimal most f) refl
     where
-      by : (d : Number) → decimal most f ≡ d → d ≡ Unreadable
-      by Unreadable e = refl
-      by (Value m) e =
+      by : (d : Option ℕ) → decimal most f ≡ d → d ≡ None
+      by None e = refl
+      by (Some m) e =
           let other = read_only f m e in
           absurd (omega (arith, x.value, other.0.value, other.1))
 
@@ -127,10 +125,10 @@ module _ (most : ℕ) where
   Fronted fs unreadable = Unit
   Fronted fs (number n rest) = Front most fs n rest
 
-  taken_good : (f : List ℕ) (fs : List (List ℕ)) (x : Number) → Good f x → Fronted (f ∷ fs) (taken_as x fs)
+  taken_good : (f : List ℕ) (fs : List (List ℕ)) (x : Option ℕ) → Good f x → Fronted (f ∷ fs) (taken_as x fs)
   unfolding taken_as
-  taken_good f fs Unreadable h = tt
-  taken_good f fs (Value n) h = record { text = f; fields = refl; numeral = h.0; within = h.1 }
+  taken_good f fs None h = tt
+  taken_good f fs (Some n) h = record { text = f; fields = refl; numeral = h.0; within = h.1 }
 
   take_good : (fs : List (List ℕ)) → Fronted fs (take_number most fs)
   unfolding take_number

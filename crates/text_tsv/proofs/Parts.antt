@@ -2,6 +2,7 @@
 -- Assumes nothing.
 use Rattle.std.proofs.Common.{◌≡◌, ℕ, ◌≤◌, Bool, true, false, cond, ◌&&◌, eqb, List, [], ◌∷◌, ◌++◌, length, drop, sym, refl, ap, ◌∙◌, subst, ap₂, arith, eq-eqb, ne_eqb, eqb-true, le-leb}
 use Rattle.std.proofs.lemmas.Bool.{false≢true}
+use Rattle.std.specs.Cmp.Lexicographic.{pointwise}
 use Rattle.text_tsv.specs.Text.{Line, longer, lines, wider, fields, same}
 use Rattle.text_tsv.specs.Fields.{fields_at}
 use Rattle.text_tsv.specs.Laws.{Without, joined, TabFree}
@@ -93,3 +94,11 @@ same_self (x ∷ a) = rw (eq-eqb x x refl) (same_self a)
 
 pub is_same : (a b : List ℕ) → a ≡ b → same a b ≡ true
 is_same a b e = subst (λ (l : List ℕ). same a l ≡ true) e (same_self a)
+
+-- as `==` of two slices tells it
+pub compared : (a b : List ℕ) → pointwise eqb a b ≡ same a b
+unfolding same
+compared [] [] = refl
+compared [] (y ∷ b) = refl
+compared (x ∷ a) [] = refl
+compared (x ∷ a) (y ∷ b) = ap (λ (t : Bool). eqb x y && t) (compared a b)

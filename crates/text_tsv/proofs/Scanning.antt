@@ -1,26 +1,16 @@
--- What a loop over the bytes of a text owes at its end, here and next; and bytes written one after the other.
+-- Where the first byte of a kind stands; and bytes written one after the other.
 -- Assumes nothing.
-use Rattle.std.proofs.Common.{◌≡◌, ℕ, suc, ◌+◌, ◌<◌, ◌≤◌, Bool, true, false, cond, ◌&&◌, eqb, List, [], ◌∷◌, ◌++◌, length, get_or, take, drop, set, sym, refl, ap, ◌∙◌, add-one, arith, drop_of_length-le, length-take-le, drop-cons, take-suc, eq-eqb, ne_eqb, eqb-true}
+use Rattle.std.proofs.Common.{◌≡◌, ℕ, zero, suc, ◌+◌, ◌<◌, ◌≤◌, Bool, true, false, cond, eqb, List, [], ◌∷◌, ◌++◌, length, get_or, take, drop, set, sym, refl, ap, ◌∙◌, add-one, arith, drop-cons, eqb-true, ltb, ltb-false, not, ◌-◌, length-drop, drop-drop, append_assoc, Option, Some, None, min}
 use Rattle.std.proofs.Math.Seq.{sets, set_comm}
-use Rattle.text_tsv.specs.Text.{up_to, same}
+use Rattle.std.proofs.lemmas.List.Edits.{sets-eq}
+use borrow.Rule.Slice.PartMut.{put_mid}
+use Rattle.std.specs.List.{position_or_len, IsFirstMatchOrLen}
+use Rattle.std.proofs.lemmas.Option.{cond_some}
+use Rattle.text_tsv.specs.Text.{up_to}
 
 -- the rest of a text from a place: its byte, and the rest after it
 pub rest_of : (s : List ℕ) (i : ℕ) → i < length s → drop i s ≡ get_or s i 0 ∷ drop (i + 1) s
 rest_of s i h = drop-cons s i 0 h ∙ ap (λ (k : ℕ). get_or s i 0 ∷ drop k s) (sym (add-one i))
-
-module _ (b : ℕ) (s : List ℕ) (i : ℕ) where
-  pub found_end : length s ≤ i → i + length (up_to b (drop i s)) ≡ i
-  unfolding up_to
-  found_end h = rw (drop_of_length-le s h) (omega arith)
-
-  pub found_here : i < length s → get_or s i 0 ≡ b → i + length (up_to b (drop i s)) ≡ i
-  unfolding up_to
-  found_here h e = rw (rest_of s i h, eq-eqb _ _ e) (omega arith)
-
-  pub found_next :
-      i < length s → (get_or s i 0 ≡ b → ⊥) → i + 1 + length (up_to b (drop (i + 1) s)) ≡ i + length (up_to b (drop i s))
-  unfolding up_to
-  found_next h n = rw (rest_of s i h, ne_eqb _ _ n) (omega arith)
 
 -- the place found is within the text
 pub found_within : (b : ℕ) (s : List ℕ) → length (up_to b s) ≤ length s
@@ -31,6 +21,38 @@ found_within b (x ∷ s) = by (eqb x b) (found_within b s)
     by : (t : Bool) → length (up_to b s) ≤ length s → length (cond t [] (x ∷ up_to b s)) ≤ length (x ∷ s)
     by true h = omega arith
     by false h = omega arith
+
+pub place_within :
+    (b : ℕ) (s : List ℕ) (at : ℕ) {end : ℕ} → at ≤ length s → end ≡ at + length (up_to b (drop at s)) → end ≤ length s
+place_within b s at h e = omega (arith, found_within b (drop at s), length-drop at s)
+
+-- the place of the first such byte, as std's `position` tells it
+pub record Position (b : ℕ) (s : List ℕ) (r : Option ℕ) : Type 0 where
+  pub is : r ≡ cond (ltb (position_or_len (λ x. eqb x b) s) (length s)) (Some (position_or_len (λ x. eqb x b) s)) None
+
+place : (b : ℕ) (s : List ℕ) → length (up_to b s) ≡ position_or_len (λ x. eqb x b) s
+unfolding up_to
+place b [] = refl
+place b (x ∷ s) = by (eqb x b) (place b s)
+  where
+    by :
+        (t : Bool) → length (up_to b s) ≡ position_or_len (λ x. eqb x b) s →
+        length (cond t [] (x ∷ up_to b s)) ≡ cond (not t) (1 + position_or_len (λ x. eqb x b) s) 0
+    by true e = refl
+    by false e = omega arith
+
+module _ {b : ℕ} {s : List ℕ} {r : Option ℕ} (p : Position b s r) where
+  pub place_found : {i : ℕ} → r ≡ Some i → i ≡ length (up_to b s)
+  place_found e = sym (place b s ∙ (cond_some _ _ _ (sym p.is ∙ e)).1)
+
+  pub place_none : r ≡ None → length s ≡ length (up_to b s)
+  place_none e = by (ltb (position_or_len (λ x. eqb x b) s) (length s)) refl (sym p.is ∙ e)
+    where
+      by :
+          (t : Bool) → ltb (position_or_len (λ x. eqb x b) s) (length s) ≡ t →
+          cond t (Some (position_or_len (λ x. eqb x b) s)) None ≡ None → length s ≡ length (up_to b s)
+      by true l h = cc
+      by false l h = omega (arith, place b s, ltb-false _ _ l, found_within b s)
 
 -- the byte does not occur
 abbrev pub Lacks : ℕ → List ℕ → Type 0
@@ -61,46 +83,20 @@ found_split b (x ∷ s) h = by (eqb x b) refl h (found_split b s)
     by true e h ih = ap (λ (y : ℕ). y ∷ s) (eqb-true x b e)
     by false e h ih = ap (λ (l : List ℕ). x ∷ l) (ih (omega arith))
 
--- texts of different lengths are not the same
-pub same_length : (s t : List ℕ) → (length s ≡ length t → ⊥) → same s t ≡ false
-unfolding same
-same_length [] [] n = absurd (n refl)
-same_length [] (b ∷ t) n = refl
-same_length (a ∷ s) [] n = refl
-same_length (a ∷ s) (b ∷ t) n = by (eqb a b) (same_length s t λ e. n (ap (λ (k : ℕ). suc k) e))
-  where
-    by : (x : Bool) {y : Bool} → y ≡ false → (x && y) ≡ false
-    by true e = e
-    by false e = refl
-
-module _ (s t : List ℕ) (i : ℕ) where
-  pub same_end : length s ≤ i → length t ≤ i → same (drop i s) (drop i t) ≡ true
-  unfolding same
-  same_end h k = rw (drop_of_length-le s h, drop_of_length-le t k)
-
-  pub same_next :
-      i < length s → i < length t → get_or s i 0 ≡ get_or t i 0 →
-      same (drop i s) (drop i t) ≡ same (drop (i + 1) s) (drop (i + 1) t)
-  unfolding same
-  same_next h k e = rw (rest_of s i h, rest_of t i k, eq-eqb _ _ e)
-
-  pub same_differ : i < length s → i < length t → (get_or s i 0 ≡ get_or t i 0 → ⊥) → same (drop i s) (drop i t) ≡ false
-  unfolding same
-  same_differ h k n = rw (rest_of s i h, rest_of t i k, ne_eqb _ _ n)
-
 -- bytes written after bytes
 pub sets_append :
     (l : List ℕ) (i : ℕ) (a b : List ℕ) → sets l i (a ++ b) ≡ sets (sets l i a) (i + length a) b
 sets_append l i [] b = ap (λ (k : ℕ). sets l k b) (omega arith)
 sets_append l i (x ∷ a) b = sets_append (set l i x) (suc i) a b ∙ ap (λ (k : ℕ). sets (sets (set l i x) (suc i) a) k b) (omega arith)
 
--- one more byte of those that are being copied
-pub sets_next :
-    (l : List ℕ) (at : ℕ) (s : List ℕ) (i : ℕ) → i < length s →
-    set (sets l at (take i s)) (at + i) (get_or s i 0) ≡ sets l at (take (i + 1) s)
-sets_next l at s i h =
-    sym (ap (λ (v : List ℕ). sets l at v) (ap (λ (k : ℕ). take k s) (add-one i) ∙ take-suc s i 0 h) ∙ sets_append l at (take i s) (get_or s i 0 ∷ [])
-    ∙ ap (λ (k : ℕ). set (sets l at (take i s)) k (get_or s i 0)) (ap (λ (k : ℕ). at + k) (length-take-le i s (omega arith))))
+-- bytes copied into a part of the output
+pub copied :
+    (l : List ℕ) (at : ℕ) (s : List ℕ) {t : List ℕ} → t ≡ s → at + length s ≤ length l →
+    put_mid at (at + length s - at) l t ≡ sets l at s
+copied l at s {t} e h =
+    let k : at + length s - at ≡ length s = omega arith in
+    let rest : drop (length s) (drop at l) ≡ drop (at + length s) l = drop-drop (length s) at l in
+    sym (sets-eq s l at h ∙ append_assoc (take at l) s (drop (at + length s) l) ∙ rw (k, e, rest) refl)
 
 -- bytes written before bytes that were written
 byte_before : (l : List ℕ) (i j v : ℕ) (s : List ℕ) → i < j → sets (set l i v) j s ≡ set (sets l j s) i v
@@ -116,3 +112,13 @@ sets_before l i (x ∷ a) b =
     let same : i + suc (length a) ≡ suc i + length a = omega arith in
     let moved = sym (byte_before l i (i + suc (length a)) x b (omega arith)) ∙ ap (λ (k : ℕ). sets (set l i x) k b) same in
     ap (λ (m : List ℕ). sets m (suc i) a) moved ∙ sets_before (set l i x) (suc i) a b
+
+-- where the first such byte stands, as the library's splits find it
+pub first_place :
+    (b : ℕ) (s : List ℕ) (e : ℕ) → IsFirstMatchOrLen (λ x. eqb x b) s e → min e (length s) ≡ length (up_to b s)
+unfolding up_to
+first_place b [] e h = omega arith
+first_place b (x ∷ s) zero h = rw (h.1 (omega arith) 0) (omega arith)
+first_place b (x ∷ s) (suc e) h =
+    let rest = first_place b s e ((λ k d low high. h.0 (suc k) d (omega arith) (omega arith)), (λ l d. h.1 (omega arith) d)) in
+    rw (h.0 0 0 (omega arith) (omega arith)) (omega (arith, rest))

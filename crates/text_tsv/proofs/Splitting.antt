@@ -4,10 +4,7 @@ use Rattle.std.proofs.Common.{◌≡◌, ℕ, suc, ◌+◌, ◌-◌, ◌<◌, �
 use Rattle.std.proofs.Math.Dec.{leb-zero, leb-suc-suc}
 use Rattle.std.proofs.lemmas.Bool.{lt-leb}
 use Rattle.text_tsv.specs.Text.{fields, wider, up_to, tab}
-use Rattle.text_tsv.specs.declared.decimal.Number.{Number}
-use Rattle.text_tsv.specs.declared.decimal.Number.TheVariants.{Value, Unreadable}
-use Rattle.text_tsv.specs.Decimal.{decimal}
-use Rattle.text_tsv.specs.Fields.{fields_at, unreadable, number, taken_as, take_number}
+use Rattle.text_tsv.specs.Fields.{fields_at}
 
 -- what stands before the first such byte is a front of the text
 pub front : (b : ℕ) (s : List ℕ) → take (length (up_to b s)) s ≡ up_to b s
@@ -68,23 +65,12 @@ module _ (line : List ℕ) (at : ℕ) where
           let outside : length (drop at line) ≤ k = omega (arith, length-drop at line) in
           rw (le-ltb k _ outside)
 
--- the number of the field at a place
-module _ (most : ℕ) (line : List ℕ) (at : ℕ) {end : ℕ} (h : at ≤ length line) (e : end ≡ at + length (up_to tab (drop at line)))
-    {x : Number} (says : x ≡ decimal most (take (end - at) (drop at line))) where
-  read_is : decimal most (up_to tab (drop at line)) ≡ x
-  read_is =
-      let k : length (up_to tab (drop at line)) ≡ end - at = omega arith in
-      sym (says ∙ ap (λ (s : List ℕ). decimal most s) (ap (λ (n : ℕ). take n (drop at line)) (sym k) ∙ front tab (drop at line)))
+  -- as a reader that stands there tells it
+  pub first_field :
+      {end : ℕ} → at ≤ length line → end ≡ at + length (up_to tab (drop at line)) →
+      fields_at line at ≡ take (end - at) (drop at line) ∷ fields_at line (end + 1)
+  first_field {end} h e =
+      let k : end - at ≡ length (up_to tab (drop at line)) = omega arith in
+      rw (k, front tab (drop at line)) (fields_here h e)
 
-  taken_is : taken_as x (fields_at line (end + 1)) ≡ take_number most (fields_at line at)
-  unfolding take_number
-  taken_is =
-      sym (ap (λ (fs : List (List ℕ)). take_number most fs) (fields_here line at h e) ∙ ap (λ (n : Number). taken_as n (fields_at line (end + 1))) read_is)
-
-  pub takes_number : {v : ℕ} → x ≡ Value v → number v (fields_at line (end + 1)) ≡ take_number most (fields_at line at)
-  unfolding taken_as
-  takes_number i = sym (ap (λ (n : Number). taken_as n (fields_at line (end + 1))) i) ∙ taken_is
-
-  pub takes_none : x ≡ Unreadable → unreadable ≡ take_number most (fields_at line at)
-  unfolding taken_as
-  takes_none i = sym (ap (λ (n : Number). taken_as n (fields_at line (end + 1))) i) ∙ taken_is
+pub ruleset by_place = (fields_beyond, first_field)

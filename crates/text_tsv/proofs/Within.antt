@@ -1,15 +1,13 @@
 -- A number that is taken off the front of some fields is at most its most.
 -- Assumes nothing.
-use Rattle.std.proofs.Common.{◌≡◌, ℕ, ◌+◌, ◌-◌, ◌*◌, ◌≤◌, Bool, true, false, cond, ◌&&◌, eqb, leb, List, [], ◌∷◌, sym, refl, subst, arith, leb-true}
-use Rattle.text_tsv.specs.declared.decimal.Number.{Number}
-use Rattle.text_tsv.specs.declared.decimal.Number.TheVariants.{Value, Unreadable}
+use Rattle.std.proofs.Common.{◌≡◌, ℕ, ◌+◌, ◌-◌, ◌*◌, ◌≤◌, Bool, true, false, cond, ◌&&◌, eqb, leb, List, [], ◌∷◌, sym, refl, subst, arith, leb-true, Option, Some, None}
 use Rattle.text_tsv.specs.Decimal.{digit, is_digit, appended, more, onwards, alone, decimal}
 use Rattle.text_tsv.specs.Fields.{Taken, unreadable, number, taken_as, take_number}
 
 module _ (most : ℕ) where
-  abbrev Within : Number → Type 0
-  Within Unreadable = Unit
-  Within (Value v) = v ≤ most
+  abbrev Within : Option ℕ → Type 0
+  Within None = Unit
+  Within (Some v) = v ≤ most
 
   abbrev TakenWithin : Taken → Type 0
   TakenWithin unreadable = Unit
@@ -21,16 +19,16 @@ module _ (most : ℕ) where
     where
       by :
           (d t : Bool) → leb (10 * v + (b - 48)) most ≡ t →
-          Within (cond (d && t) (Value (10 * v + (b - 48))) Unreadable)
+          Within (cond (d && t) (Some (10 * v + (b - 48))) None)
       by true true e = leb-true _ _ e
       by true false e = tt
       by false t e = tt
 
-  onwards_within : (n : Number) (s : List ℕ) → Within n → Within (onwards most n s)
+  onwards_within : (n : Option ℕ) (s : List ℕ) → Within n → Within (onwards most n s)
   unfolding onwards more
   onwards_within n [] h = h
-  onwards_within Unreadable (b ∷ s) h = onwards_within Unreadable s h
-  onwards_within (Value v) (b ∷ s) h = onwards_within (appended most v b) s (appended_within v b)
+  onwards_within None (b ∷ s) h = onwards_within None s h
+  onwards_within (Some v) (b ∷ s) h = onwards_within (appended most v b) s (appended_within v b)
 
   alone_within : (s : List ℕ) → Within (alone s)
   unfolding alone
@@ -42,14 +40,14 @@ module _ (most : ℕ) where
   decimal_within [] = tt
   decimal_within (b ∷ s) = by (eqb b (digit 0))
     where
-      by : (t : Bool) → Within (cond t (alone s) (onwards most (Value 0) (b ∷ s)))
+      by : (t : Bool) → Within (cond t (alone s) (onwards most (Some 0) (b ∷ s)))
       by true = alone_within s
-      by false = onwards_within (Value 0) (b ∷ s) (omega arith)
+      by false = onwards_within (Some 0) (b ∷ s) (omega arith)
 
-  taken_within : (n : Number) (fs : List (List ℕ)) → Within n → TakenWithin (taken_as n fs)
+  taken_within : (n : Option ℕ) (fs : List (List ℕ)) → Within n → TakenWithin (taken_as n fs)
   unfolding taken_as
-  taken_within Unreadable fs h = tt
-  taken_within (Value v) fs h = h
+  taken_within None fs h = tt
+  taken_within (Some v) fs h = h
 
   take_within : (fs : List (List ℕ)) → TakenWithin (take_number most fs)
   unfolding take_number

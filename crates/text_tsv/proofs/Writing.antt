@@ -3,8 +3,8 @@
 use Rattle.std.proofs.Common.{◌≡◌, ℕ, ◌+◌, ◌-◌, ◌/◌, ◌%◌, ◌^◌, ◌<◌, ◌≤◌, List, [], ◌∷◌, ◌++◌, length, sym, refl, ap, ◌∙◌, append_assoc, append-nil, arith, length-append}
 use Rattle.std.proofs.Math.Seq.{sets, length-sets}
 use Rattle.text_tsv.specs.Decimal.{digit, digits}
-use Rattle.text_tsv.proofs.Digits.{pair_of, digits_pair}
-use Rattle.text_tsv.proofs.Scanning.{sets_before}
+use Rattle.text_tsv.proofs.Digits.{pair_of, digits_pair, digits_log, cell_length}
+use Rattle.text_tsv.proofs.Scanning.{sets_append, sets_before}
 
 pub record Rest (l : List ℕ) (at n : ℕ) (out : List ℕ) (rest place : ℕ) : Type 0 where
   pub written : List ℕ
@@ -53,3 +53,7 @@ module _ {l : List ℕ} {at n : ℕ} {out : List ℕ} {rest place : ℕ} (r : Re
   rest_done e =
       e ∙ ap (λ (s : List ℕ). sets s at (digits rest)) (r.out_is ∙ ap (λ (k : ℕ). sets l k r.written) r.place_is)
       ∙ sets_before l at (digits rest) r.written ∙ ap (λ (s : List ℕ). sets l at s) r.digits_all
+
+pub ruleset by_end = (cell_length, sets_append)
+
+pub ruleset by_two = (digits_log, rest_all, rest_next)

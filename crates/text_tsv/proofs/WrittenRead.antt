@@ -1,20 +1,18 @@
 -- A number that is written and read is the number.
 -- Assumes nothing.
-use Rattle.std.proofs.Common.{◌≡◌, ℕ, zero, suc, ◌+◌, ◌-◌, ◌*◌, ◌/◌, ◌%◌, ◌^◌, ◌<◌, ◌≤◌, Bool, true, false, cond, ltb, List, [], ◌∷◌, ◌++◌, length, get_or, refl, ap, ◌∙◌, inl, inr, arith, length-append, ltb-false, ltb-true, lt-ltb, le-leb}
+use Rattle.std.proofs.Common.{◌≡◌, ℕ, zero, suc, ◌+◌, ◌-◌, ◌*◌, ◌/◌, ◌%◌, ◌^◌, ◌<◌, ◌≤◌, Bool, true, false, cond, ltb, List, [], ◌∷◌, ◌++◌, length, get_or, refl, ap, ◌∙◌, inl, inr, arith, length-append, ltb-false, ltb-true, lt-ltb, le-leb, Option, Some}
 use Rattle.std.proofs.Math.ListN.{get_or-append}
-use Rattle.text_tsv.specs.declared.decimal.Number.{Number}
-use Rattle.text_tsv.specs.declared.decimal.Number.TheVariants.{Value}
 use Rattle.text_tsv.specs.Decimal.{digit, is_digit, appended, more, onwards, decimal, digits_up_to, digits}
 use Rattle.text_tsv.proofs.Digits.{Enough, enough_64}
 use Rattle.text_tsv.proofs.Reading.{decimal_zero, decimal_digits}
 
-onwards_append : (most : ℕ) (n : Number) (a b : List ℕ) → onwards most n (a ++ b) ≡ onwards most (onwards most n a) b
+onwards_append : (most : ℕ) (n : Option ℕ) (a b : List ℕ) → onwards most n (a ++ b) ≡ onwards most (onwards most n a) b
 unfolding onwards
 onwards_append most n [] b = refl
 onwards_append most n (x ∷ a) b = onwards_append most (more most n x) a b
 
 -- a digit's byte is a digit, and adds it
-digit_appended : (most v d : ℕ) → d < 10 → 10 * v + d ≤ most → appended most v (digit d) ≡ Value (10 * v + d)
+digit_appended : (most v d : ℕ) → d < 10 → 10 * v + d ≤ most → appended most v (digit d) ≡ Some (10 * v + d)
 unfolding appended is_digit
 digit_appended most v d h l =
     let low : 48 ≤ 48 + d = omega arith in
@@ -24,30 +22,30 @@ digit_appended most v d h l =
 
 module _ (most : ℕ) where
   -- one digit
-  read_one : (n : ℕ) → n < 10 → n ≤ most → onwards most (Value 0) (digit n ∷ []) ≡ Value n
+  read_one : (n : ℕ) → n < 10 → n ≤ most → onwards most (Some 0) (digit n ∷ []) ≡ Some n
   unfolding onwards more
-  read_one n h l = digit_appended most 0 n h (omega arith) ∙ ap (λ (x : ℕ). Value x) (omega arith)
+  read_one n h l = digit_appended most 0 n h (omega arith) ∙ ap (λ (x : ℕ). Some x) (omega arith)
 
   -- the digits of a tenth, and the last
   read_more :
-      (n : ℕ) (s : List ℕ) → onwards most (Value 0) s ≡ Value (n / 10) → n ≤ most →
-      onwards most (Value 0) (s ++ (digit (n % 10) ∷ [])) ≡ Value n
+      (n : ℕ) (s : List ℕ) → onwards most (Some 0) s ≡ Some (n / 10) → n ≤ most →
+      onwards most (Some 0) (s ++ (digit (n % 10) ∷ [])) ≡ Some n
   unfolding onwards more
   read_more n s e l =
       let whole : 10 * (n / 10) + n % 10 ≡ n = omega arith in
-      onwards_append most (Value 0) s (digit (n % 10) ∷ []) ∙ ap (λ (x : Number). more most x (digit (n % 10))) e
-      ∙ digit_appended most (n / 10) (n % 10) (omega arith) (omega arith) ∙ ap (λ (x : ℕ). Value x) whole
+      onwards_append most (Some 0) s (digit (n % 10) ∷ []) ∙ ap (λ (x : Option ℕ). more most x (digit (n % 10))) e
+      ∙ digit_appended most (n / 10) (n % 10) (omega arith) (omega arith) ∙ ap (λ (x : ℕ). Some x) whole
 
   -- digit by digit it comes to the number
-  read_back : (k n : ℕ) → Enough k n → n ≤ most → onwards most (Value 0) (digits_up_to k n) ≡ Value n
+  read_back : (k n : ℕ) → Enough k n → n ≤ most → onwards most (Some 0) (digits_up_to k n) ≡ Some n
   unfolding digits_up_to
   read_back zero n e l = absurd e
   read_back (suc k) n (inl h) l = rw (lt-ltb n 10 h) (read_one n h l)
   read_back (suc k) n (inr e) l = by (ltb n 10) refl (read_more n (digits_up_to k (n / 10)) (read_back k (n / 10) e (omega arith)) l)
     where
       by :
-          (t : Bool) → ltb n 10 ≡ t → onwards most (Value 0) (digits_up_to k (n / 10) ++ (digit (n % 10) ∷ [])) ≡ Value n →
-          onwards most (Value 0) (cond t (digit n ∷ []) (digits_up_to k (n / 10) ++ (digit (n % 10) ∷ []))) ≡ Value n
+          (t : Bool) → ltb n 10 ≡ t → onwards most (Some 0) (digits_up_to k (n / 10) ++ (digit (n % 10) ∷ [])) ≡ Some n →
+          onwards most (Some 0) (cond t (digit n ∷ []) (digits_up_to k (n / 10) ++ (digit (n % 10) ∷ []))) ≡ Some n
       by true t r = read_one n (ltb-true n 10 t) l
       by false t r = r
 
@@ -76,7 +74,7 @@ leading (suc k) n (inr e) l = by (ltb n 10) refl (leading k (n / 10) e) (least k
         let first = r (omega arith) in
         rw (get_or-append (digits_up_to k (n / 10)) (digit (n % 10) ∷ []) 0 0 m) first
 
-pub written_read : (most n : ℕ) → n < 2 ^ 64 → n ≤ most → decimal most (digits n) ≡ Value n
+pub written_read : (most n : ℕ) → n < 2 ^ 64 → n ≤ most → decimal most (digits n) ≡ Some n
 unfolding digits digits_up_to
 written_read most zero h l = decimal_zero most (digits 0) refl refl
 written_read most (suc n) h l =

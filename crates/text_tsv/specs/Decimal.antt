@@ -1,7 +1,5 @@
 -- Numbers (document 01, 'The tabbed text'): decimal, without sign or leading zero (`0` itself is allowed).
-use Rattle.std.specs.Prelude.{ℕ, zero, suc, ◌+◌, ◌-◌, ◌*◌, ◌/◌, ◌%◌, Bool, cond, ◌&&◌, List, [], ◌∷◌, ◌++◌, leb, ltb, eqb}
-use Rattle.text_tsv.specs.declared.decimal.Number.{Number}
-use Rattle.text_tsv.specs.declared.decimal.Number.TheVariants.{Value, Unreadable}
+use Rattle.std.specs.Prelude.{ℕ, zero, suc, ◌+◌, ◌-◌, ◌*◌, ◌/◌, ◌%◌, Bool, cond, ◌&&◌, List, [], ◌∷◌, ◌++◌, leb, ltb, eqb, Option, Some, None}
 
 -- the byte of a digit
 abbrev pub digit : ℕ → ℕ
@@ -11,26 +9,26 @@ unfoldable pub is_digit : ℕ → Bool
 is_digit b = leb 48 b && leb b 57
 
 -- one more digit after a value, if the number stays within its most
-unfoldable pub appended : ℕ → ℕ → ℕ → Number
-appended most v b = cond (is_digit b && leb (10 * v + (b - 48)) most) (Value (10 * v + (b - 48))) Unreadable
+unfoldable pub appended : ℕ → ℕ → ℕ → Option ℕ
+appended most v b = cond (is_digit b && leb (10 * v + (b - 48)) most) (Some (10 * v + (b - 48))) None
 
-unfoldable pub more : ℕ → Number → ℕ → Number
-more most Unreadable b = Unreadable
-more most (Value v) b = appended most v b
+unfoldable pub more : ℕ → Option ℕ → ℕ → Option ℕ
+more most None b = None
+more most (Some v) b = appended most v b
 
 -- the digits of a number, after those that came to the number so far
-unfoldable pub onwards : ℕ → Number → List ℕ → Number
+unfoldable pub onwards : ℕ → Option ℕ → List ℕ → Option ℕ
 onwards most n [] = n
 onwards most n (b ∷ s) = onwards most (more most n b) s
 
-unfoldable pub alone : List ℕ → Number
-alone [] = Value 0
-alone (b ∷ s) = Unreadable
+unfoldable pub alone : List ℕ → Option ℕ
+alone [] = Some 0
+alone (b ∷ s) = None
 
 -- a field as a number that is at most `most`
-unfoldable pub decimal : ℕ → List ℕ → Number
-decimal most [] = Unreadable
-decimal most (b ∷ s) = cond (eqb b (digit 0)) (alone s) (onwards most (Value 0) (b ∷ s))
+unfoldable pub decimal : ℕ → List ℕ → Option ℕ
+decimal most [] = None
+decimal most (b ∷ s) = cond (eqb b (digit 0)) (alone s) (onwards most (Some 0) (b ∷ s))
 
 -- a number of up to so many digits, written with the fewest that hold it
 unfoldable pub digits_up_to : ℕ → ℕ → List ℕ

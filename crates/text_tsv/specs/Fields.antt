@@ -1,8 +1,5 @@
 -- Reading from field to field (document 01: 'The reader stands over the lent text and moves from field to field').
-use Rattle.std.specs.Prelude.{ℕ, cond, List, [], ◌∷◌, leb, length, drop}
-use Rattle.text_tsv.specs.declared.decimal.Number.{Number}
-use Rattle.text_tsv.specs.declared.decimal.Number.TheVariants.{Value, Unreadable}
-use Rattle.text_tsv.specs.declared.field.Field as field
+use Rattle.std.specs.Prelude.{ℕ, cond, List, [], ◌∷◌, leb, length, drop, Option, Some, None}
 use Rattle.text_tsv.specs.Decimal.{decimal}
 use Rattle.text_tsv.specs.Text.{fields}
 
@@ -15,15 +12,11 @@ pub data Taken : Type 0 where
   unreadable : Taken
   number : ℕ → List (List ℕ) → Taken
 
-unfoldable pub taken_as : Number → List (List ℕ) → Taken
-taken_as Unreadable fs = unreadable
-taken_as (Value v) fs = number v fs
+-- what the first field says, and the fields after it
+unfoldable pub taken_as : Option ℕ → List (List ℕ) → Taken
+taken_as None fs = unreadable
+taken_as (Some v) fs = number v fs
 
 unfoldable pub take_number : ℕ → List (List ℕ) → Taken
 take_number most [] = unreadable
 take_number most (f ∷ fs) = taken_as (decimal most f) fs
-
--- what a field reader's answer says of the line
-unfoldable pub taken_of : List ℕ → field.Field → Taken
-taken_of line field.TheVariants.Unreadable = unreadable
-taken_of line (field.TheVariants.Number value next) = number value (fields_at line next)

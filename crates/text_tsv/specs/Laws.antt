@@ -1,6 +1,5 @@
 -- The laws of tabbed text (document 01, 'The tabbed text'), with its bytes: an LF is 10, a tab 9, the digits are 48 to 57.
-use Rattle.std.specs.Prelude.{ℕ, ◌+◌, ◌-◌, ◌*◌, ◌≤◌, ◌<◌, ◌≡◌, true, false, List, [], ◌∷◌, ◌++◌, length, get_or, drop}
-use Rattle.text_tsv.specs.declared.decimal.Number.TheVariants.{Value, Unreadable}
+use Rattle.std.specs.Prelude.{ℕ, ◌+◌, ◌-◌, ◌*◌, ◌≤◌, ◌<◌, ◌≡◌, true, false, List, [], ◌∷◌, ◌++◌, length, get_or, drop, Some, None}
 use Rattle.text_tsv.specs.Text.{lines, fields, same}
 use Rattle.text_tsv.specs.Decimal.{decimal, digits, cell}
 use Rattle.text_tsv.specs.Fields.{fields_at, unreadable, number, take_number}
@@ -66,9 +65,9 @@ pub record Front (most : ℕ) (fs : List (List ℕ)) (n : ℕ) (rest : List (Lis
 
 -- numbers: a field is read as n exactly if it is the decimal of n, and n is at most what is allowed
 pub record NumberLaws : Type 0 where
-  pub read : (most : ℕ) (f : List ℕ) (n : ℕ) → Numeral f n → n ≤ most → decimal most f ≡ Value n
-  pub read_only : (most : ℕ) (f : List ℕ) (n : ℕ) → decimal most f ≡ Value n → Numeral f n × (n ≤ most)
-  pub beyond : (most : ℕ) (f : List ℕ) (n : ℕ) → Numeral f n → most < n → decimal most f ≡ Unreadable
+  pub read : (most : ℕ) (f : List ℕ) (n : ℕ) → Numeral f n → n ≤ most → decimal most f ≡ Some n
+  pub read_only : (most : ℕ) (f : List ℕ) (n : ℕ) → decimal most f ≡ Some n → Numeral f n × (n ≤ most)
+  pub beyond : (most : ℕ) (f : List ℕ) (n : ℕ) → Numeral f n → most < n → decimal most f ≡ None
   -- so it is with a number off the front of some fields
   pub taken :
       (most : ℕ) (fs : List (List ℕ)) (n : ℕ) (rest : List (List ℕ)) →

@@ -1,40 +1,18 @@
 // A line, read from field to field by a reader that stands at a place in it.
 // The place of the field after the last is beyond the line's end.
-ghost use Rattle.std.specs.Prelude.{◌≡◌};
-ghost use Rattle.text_tsv.specs.Fields.{fields_at, take_number, taken_of};
+ghost use Rattle.std.specs.Prelude.{◌≡◌, drop};
+ghost use Rattle.std.specs.Iterator.{YieldsFirstRef, item_count};
+ghost use Rattle.text_tsv.specs.Fields.{fields_at, take_number, taken_as};
 
 use crate::bytes::TAB;
-use crate::decimal::Number;
 use crate::{bytes, decimal};
 
-#[derive(Clone, Copy)]
-pub enum Field {
-    Number { value: u64, next: usize },
-    Unreadable,
-}
-
-// A lent text, and the place in it where the next field begins. Callers use `number`.
+// A lent text, and the place in it where the next field begins. Its items are the fields from there on. In place of std's `split` it keeps
+// both, since `moved` puts it at any place, also one beyond the text's end.
 #[derive(Clone, Copy)]
 pub struct Reader<'a> {
     text: &'a [u8],
     at: usize,
-}
-
-// The number in the field at a place, and the place of the next field.
-fn take(text: &[u8], at: usize, most: u64) -> Field
-    ensures { taken_of text.now result ≡ take_number most (fields_at text.now at) }
-{
-    if text.len() < at {
-        return Field::Unreadable;
-    }
-    let end = bytes::find(text, at, TAB);
-    let Number::Value(value) = decimal::read(&text[at..end], most) else {
-        return Field::Unreadable;
-    };
-    Field::Number {
-        value,
-        next: end + 1,
-    }
 }
 
 impl<'a> Reader<'a> {
@@ -45,7 +23,7 @@ impl<'a> Reader<'a> {
         Reader { text, at: 0 }
     }
 
-    // The reader at another place of its text.
+    // The reader at another place of its text. Beyond the text's end there is no field.
     pub fn moved(self, at: usize) -> Reader<'a>
         ensures { (result.text ≡ self.entry.text) × (result.at ≡ at) }
     {
@@ -55,17 +33,34 @@ impl<'a> Reader<'a> {
         }
     }
 
-    // The number in the next field, and the place of the field after it.
-    pub fn next(self, most: u64) -> Field
-        ensures { taken_of self.entry.text.now result ≡ take_number most (fields_at self.entry.text.now self.entry.at) }
+    // The number in the next field. The reader stands at the field after it then, whether it is a number or not. The number in the field
+    // at a place of a line is `Reader::over(line).moved(at).number(most)`.
+    #[tactic(auto, using(crate::proofs::Fields::by_first))]
+    pub fn number(&mut self, most: u64) -> Option<u64>
+        ensures number { taken_as result (fields_at self.new.text.now self.new.at)
+            ≡ take_number most (fields_at self.old.text.now self.old.at) }
+        ensures left { fields_at self.new.text.now self.new.at ≡ drop 1 (fields_at self.old.text.now self.old.at) }
     {
-        take(self.text, self.at, most)
+        decimal::read(self.next()?, most)
     }
 }
 
-// The number in the field at a place, by a reader that is moved there.
-pub fn number(line: &[u8], at: usize, most: u64) -> Field
-    ensures { taken_of line.now result ≡ take_number most (fields_at line.now at) }
-{
-    Reader::over(line).moved(at).next(most)
+impl<'a> Iterator for Reader<'a> {
+    type Item = &'a [u8];
+
+    ghost next_gives = { YieldsFirstRef (λ s. fields_at s.text.now s.at) };
+
+    ghost remaining = { item_count (λ s. fields_at s.text.now s.at) };
+
+    #[tactic(auto, using(crate::proofs::Splitting::by_place))]
+    fn next(&mut self) -> Option<&'a [u8]> {
+        let text = self.text;
+        let at = self.at;
+        if text.len() < at {
+            return None;
+        }
+        let end = bytes::find(text, at, TAB);
+        self.at = end + 1;
+        Some(&text[at..end])
+    }
 }

@@ -2,6 +2,6 @@
 
 #![tactic(auto)]
 
-pub mod bytes; // the next byte of a kind; the same bytes; bytes written
+pub mod bytes; // the next byte of a kind; bytes written
 pub mod decimal; // a number in digits, read and written
 pub mod field; // a line, read from field to field

@@ -1,6 +1,6 @@
 -- Ticks of times that add up, and the products that reckon them.
 -- Assumes nothing.
-use Rattle.std.proofs.Common.{◌≡◌, ℕ, ◌+◌, ◌-◌, ◌*◌, ◌/◌, ◌%◌, ◌^◌, ◌<◌, ◌≤◌, sym, ap, ◌∙◌, lt_of_le_of_lt, add-mul, mul-le-mul_left, mul-lt-mul_of_pos_right, mul-zero, div-add-mod', zero-mul, mul-add, mul_right_comm, arith}
+use Rattle.std.proofs.Common.{◌≡◌, ℕ, ◌+◌, ◌-◌, ◌*◌, ◌/◌, ◌%◌, ◌^◌, ◌≤◌, sym, ap, ◌∙◌, add-mul, mul-le-mul_left, mul-zero, div-add-mod', zero-mul, mul-add, mul_right_comm, arith}
 use native.Mathlib.Nat.{sub_self}
 use Rattle.ticks.specs.declared.plan.Plan.{Plan}
 use Rattle.ticks.specs.Grains.{ticks_in, price}
@@ -35,18 +35,6 @@ price_larger p a b h = let e : b ≡ a + (b - a) = omega arith in omega (arith, 
 pub price_none : (p : Plan) → price p 0 ≡ 0
 unfolding price
 price_none p = mul-zero p.period
-
--- a product is below that of larger factors
-product_below : (a b m n : ℕ) → a < m → b < n → a * b < m * n
-product_below a b m n ha hb = lt_of_le_of_lt (mul-le-mul_left a (omega arith)) (mul-lt-mul_of_pos_right ha (omega arith))
-
--- so one of two numbers of 32 bits fits 64
-pub product_fits : (a b : ℕ) → a < 2 ^ 32 → b < 2 ^ 32 → a * b < 2 ^ 64
-product_fits a b = product_below a b (2 ^ 32) (2 ^ 32)
-
--- .. and one of a number of 44 bits and one of 20
-pub short_fits : (a b : ℕ) → a < 2 ^ 44 → b < 2 ^ 20 → a * b < 2 ^ 64
-short_fits a b = product_below a b (2 ^ 44) (2 ^ 20)
 
 -- a product by way of the upper and the lower 32 bits of one factor
 pub product_split : (s n : ℕ) → s * n ≡ s / 2 ^ 32 * n * 2 ^ 32 + s % 2 ^ 32 * n

@@ -4,7 +4,6 @@ ghost use Rattle.ticks.specs.Grains.{ticks_in, price, capacity, div_up, one_to, 
 
 use crate::round;
 use crate::units::{Millis, Ticks};
-use std::num;
 
 // The most that document 01 allows; the least of each is 1.
 pub const MOST_LIMIT: u32 = 1_000_000;
@@ -20,41 +19,24 @@ const SMALL_LIMIT: u32 = 1_048_576; // 2^20
 
 const WORD: u64 = 4_294_967_296; // 2^32
 
-const LARGEST: u64 = 18_446_744_073_709_551_615; // 2^64 - 1
-
-#[derive(Clone, Copy)]
+#[derive(Clone, Copy, Default)]
 pub struct Plan {
     pub limit: u32,
     pub period: u32,
     pub burst: u32,
 }
 
-// Whether x is at least 1 and at most `most`.
+// Whether x is at least 1 and at most `most`. No branch is made of it, as the library's `(1..=most).contains(&x)` makes.
+#[tactic(auto, unfolding(crate::specs::Grains::one_to))]
 fn is_one_to(most: u32, x: u32) -> bool
     ensures { result ≡ one_to most x }
 {
     (1 <= x) & (x <= most)
 }
 
-// A product, or the largest u64 if it is 2^64 or more; by way of the upper and the lower 32 bits of one factor.
-fn product(span: u64, limit: u32) -> u64
-    ensures { result ≡ min (span * limit) (2 ^ 64 - 1) }
-{
-    let factor = limit as u64;
-    let high = span / WORD * factor;
-    let low = span % WORD * factor;
-    if WORD <= high {
-        return LARGEST;
-    }
-    let top = high * WORD;
-    if LARGEST - top < low {
-        return LARGEST;
-    }
-    top + low
-}
-
 impl Plan {
     // Whether limit, period and burst are within document 01's limits (check 1). No branch is made of it.
+    #[tactic(auto, unfolding(crate::specs::Grains::plan_ok))]
     pub fn is_ok(self) -> bool
         ensures { result ≡ plan_ok self }
     {
@@ -63,6 +45,7 @@ impl Plan {
     }
 
     // What a cost is in ticks.
+    #[tactic(auto, unfolding(crate::specs::Grains::price))]
     pub fn price(self, cost: u32) -> Ticks
         ensures { result.0 ≡ price self cost }
     {
@@ -70,6 +53,7 @@ impl Plan {
     }
 
     // A full bucket in ticks, the most that may be owed.
+    #[tactic(auto, unfolding(crate::specs::Grains::capacity, crate::specs::Grains::price))]
     pub fn capacity(self) -> Ticks
         ensures { result.0 ≡ capacity self }
     {
@@ -77,20 +61,20 @@ impl Plan {
     }
 
     // What a stretch of time is in ticks. A product of 2^64 or more, which no moment within the clock's limit and no
-    // plan within its limits gives, is the largest u64: at least any stored number, so that no comparison is wrong.
+    // plan within its limits gives, is the largest u64: at least any stored number, so that no comparison is wrong. `saturating_mul`
+    // divides, which the products that fit are spared.
+    #[tactic(auto, unfolding(crate::specs::Grains::ticks_in))]
     pub fn ticks_in(self, span: Millis) -> Ticks
         ensures { result.0 ≡ min (ticks_in self span.0) (2 ^ 64 - 1) }
     {
-        if SMALL_LIMIT <= self.limit {
-            return Ticks(product(span.0, self.limit));
-        }
-        if SHORT_SPAN <= span.0 {
-            return Ticks(product(span.0, self.limit));
+        if SMALL_LIMIT <= self.limit || SHORT_SPAN <= span.0 {
+            return Ticks(span.0.saturating_mul(self.limit as u64));
         }
         Ticks(span.0 * self.limit as u64)
     }
 
     // What a moment within the clock's limit is in ticks of a plan within its limits: the product fits, and no test is made.
+    #[tactic(auto, unfolding(crate::specs::Grains::ticks_in))]
     pub fn ticks_at(self, moment: Millis) -> Ticks
         requires { InForce self moment.0 }
         ensures { result.0 ≡ ticks_in self moment.0 }
@@ -100,13 +84,14 @@ impl Plan {
 
     // What a stretch of time is in ticks, if that is below 2^64; if not, any number. No branch is made of it, and the compiler
     // reckons several at once: its two products are of 32 bits each.
+    #[tactic(auto, unfolding(crate::specs::Grains::ticks_in), using(crate::proofs::Products::product_split))]
     pub fn wrapping_ticks_in(self, span: Millis) -> Ticks
         ensures { ticks_in self span.0 < 2 ^ 64 → result.0 ≡ ticks_in self span.0 }
     {
         let factor = self.limit as u64;
         let high = span.0 / WORD * factor;
         let low = span.0 % WORD * factor;
-        Ticks(num::wrapping_add_u64(high % WORD * WORD, low))
+        Ticks((high % WORD * WORD).wrapping_add(low))
     }
 
     // The least whole milliseconds in which so many ticks drain: rounded up.

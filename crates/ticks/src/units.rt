@@ -2,14 +2,12 @@
 ghost use Rattle.std.specs.Prelude.{◌≡◌, ◌-◌, ◌^◌, ◌<◌, false};
 ghost use Rattle.ticks.specs.Grains.{on_clock};
 
-use std::num;
-
 // A moment or a stretch of time, in milliseconds.
-#[derive(Clone, Copy)]
+#[derive(Clone, Copy, Debug, PartialEq, Eq, PartialOrd, Ord)]
 pub struct Millis(pub u64);
 
 // Ticks (document 01's grains): a millisecond is `limit` of them, a unit costs `period`.
-#[derive(Clone, Copy)]
+#[derive(Clone, Copy, Debug, PartialEq, Eq, PartialOrd, Ord)]
 pub struct Ticks(pub u64);
 
 // The latest moment, 2^42 - 1.
@@ -20,6 +18,7 @@ const HALF: u64 = 9_223_372_036_854_775_808; // 2^63
 
 impl Millis {
     // Whether the moment is within the clock's limit (check 3).
+    #[tactic(auto, unfolding(crate::specs::Grains::on_clock))]
     pub fn is_on_clock(self) -> bool
         ensures { result ≡ on_clock self.0 }
     {
@@ -30,10 +29,7 @@ impl Millis {
     pub fn since(self, earlier: Millis) -> Millis
         ensures { result.0 ≡ self.0 - earlier.0 }
     {
-        if self.0 <= earlier.0 {
-            return Millis(0);
-        }
-        Millis(self.0 - earlier.0)
+        Millis(self.0.saturating_sub(earlier.0))
     }
 }
 
@@ -43,6 +39,6 @@ impl Ticks {
     pub fn may_be_at_most(self, most: Ticks) -> bool
         ensures { most.0 < 2 ^ 63 → result ≡ false → most.0 < self.0 }
     {
-        num::wrapping_sub_u64(most.0, self.0) < HALF
+        most.0.wrapping_sub(self.0) < HALF
     }
 }

@@ -29,28 +29,23 @@ returns-then-lent-eq1 c =
     (c.is_ok.ensures ∙ good_next ps 0 (good_none ps) c.nth.ensures ∙ ap (λ (i : ℕ). good_to ps i) all ∙ good_all ps)
 
 pub loop-i-init : goal.loop-i-init
-loop-i-init c = (good_none (plans_in c.args.plans.now), omega arith)
+loop-i-init c = good_none (plans_in c.args.plans.now)
 
 pub nth-requires-in-loop-i : goal.nth-requires-in-loop-i
 nth-requires-in-loop-i c = omega (arith, c.loop-i-test.true, c.count-lent.ensures)
 
-pub loop-i-smaller : goal.loop-i-smaller
-loop-i-smaller c = omega (arith, c.loop-i-test.true)
-
 pub loop-i-preserved : goal.loop-i-preserved
 loop-i-preserved c =
     let ps = plans_in c.args.plans.now in
-    let next : suc c.loop-i.i ≡ c.loop-i.i + 1 = omega arith in (
-      ap (λ (b : Bool). c.loop-i.ok && b) c.is_ok-ok.ensures
-          ∙ good_next ps c.loop-i.i c.loop-i.invariant.0 c.nth-in-loop-i.ensures
-          ∙ ap (λ (i : ℕ). good_to ps i) next,
-      omega (arith, c.loop-i-test.true),
-    )
+    let next : suc c.loop-i.i ≡ c.loop-i.i + 1 = omega arith in
+    ap (λ (b : Bool). c.loop-i.ok && b) c.is_ok-ok.ensures
+    ∙ good_next ps c.loop-i.i c.loop-i.invariant c.nth-in-loop-i.ensures
+    ∙ ap (λ (i : ℕ). good_to ps i) next
 
 pub returns : goal.returns
 returns c =
     let ps = plans_in c.args.plans.now in
     let n = c.count-lent.ensures in
-    let all : c.loop-i.i ≡ length ps = omega (arith, n, c.loop-i.invariant.1, c.loop-i-test.false) in
+    let all : c.loop-i.i ≡ length ps = omega (arith, n, c.loop-i-test.false) in
     lent_ok_lem ps (omega (arith, n, c.if-lent-lt1.false)) (omega (arith, n, c.if-lent-gt-MOST_PLANS.false))
-    (c.loop-i.invariant.0 ∙ ap (λ (i : ℕ). good_to ps i) all ∙ good_all ps)
+    (c.loop-i.invariant ∙ ap (λ (i : ℕ). good_to ps i) all ∙ good_all ps)

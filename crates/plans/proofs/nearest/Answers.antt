@@ -13,7 +13,7 @@ use Rattle.plans.proofs.nearest.Goals as goal
 pub returns : goal.returns
 returns c =
     let ps = plans_in c.args.plans.now in
-    let place = c.smaller in record {
+    let place = c.min in record {
       within_limits = subst (λ (p : Plan). WithinLimits p) (sym c.nth.ensures) (c.requires.each place.result (omega (arith, place.ensures, c.count-last.ensures, c.requires.least)));
       value = λ k.
           let same : place.result ≡ c.args.number = omega (arith, place.ensures, c.count-last.ensures, lent_below ps c.args.number k) in

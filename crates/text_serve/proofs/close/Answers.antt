@@ -1,26 +1,31 @@
 -- What is said at the input's end fits the output, and all of it is written.
-use Rattle.std.proofs.Common.{refl, arith}
-use Rattle.text_stream.specs.Running.{ending_of}
+use Rattle.std.proofs.Common.{sym, arith, length-take-le}
+use Rattle.text_stream.specs.Running.{session_of, ending_of}
 use Rattle.text_io.proofs.Counting.{written}
 use Rattle.text_io.proofs.Suffices.{end_fits}
 use Rattle.text_serve.specs.Serving.{Finished}
+use Rattle.text_serve.proofs.Reached.{on_unwritten}
 use Rattle.text_serve.proofs.close.Goals as goal
 
-pub finish-end-requires-clause-room : goal.finish-end-requires-clause-room
-finish-end-requires-clause-room g c = end_fits c.args.session c.args.line.now c.args.out.now c.requires.room
+pub finish-end-requires : goal.finish-end-requires
+finish-end-requires g c = end_fits (session_of c.args.stream.now) c.args.stream.now.line c.args.out.now c.requires
 
-pub write-requires : goal.write-requires
-write-requires g c =
-    let fits = end_fits c.args.session c.args.line.now c.args.out.now c.requires.room in
-    omega (arith, c.finish-end.auto.out, c.finish-end.ensures.0)
+pub slice_bounds-write-end : goal.slice_bounds-write-end
+slice_bounds-write-end g c =
+    let fits = end_fits (session_of c.args.stream.now) c.args.stream.now.line c.args.out.now c.requires in
+    omega (arith, fits, c.finish-end.auto.out, c.finish-end.ensures.0)
 
-pub returns-then-write : goal.returns-then-write
-unfolding Finished
-returns-then-write g c =
-    let fits = end_fits c.args.session c.args.line.now c.args.out.now c.requires.room in
-    let put = c.finish-end.ensures in
-    written (ending_of c.args.session c.args.line.now) c.args.out.now fits put.0 put.1 (c.if-write.ensures refl)
+pub slice_bounds-write-end-2 : goal.slice_bounds-write-end-2
+slice_bounds-write-end-2 g c =
+    let fits = end_fits (session_of c.args.stream.now) c.args.stream.now.line c.args.out.now c.requires in
+    sym (length-take-le c.finish-end.result c.finish-end.new.out (omega (arith, fits, c.finish-end.auto.out, c.finish-end.ensures.0)))
+
+pub returns-in_err-write : goal.returns-in_err-write
+returns-in_err-write g c = on_unwritten c.from_residual.result _ _ _ c.from_residual.ensures.1
 
 pub returns : goal.returns
 unfolding Finished
-returns g c = tt
+returns g c =
+    let fits = end_fits (session_of c.args.stream.now) c.args.stream.now.line c.args.out.now c.requires in
+    let put = c.finish-end.ensures in
+    written (ending_of (session_of c.args.stream.now) c.args.stream.now.line) c.args.out.now fits put.0 put.1 c.in_ok-write.ensures

@@ -1,52 +1,62 @@
 -- The loop starts at the empty input, a piece that was read and answered leads on, and each end comes to what the run promises.
-use Rattle.std.proofs.Common.{take, sym, arith, length-take-le}
-use Rattle.table_gcra.specs.Table.{table_of}
-use Rattle.text_stream.specs.Running.{state_of}
-use Rattle.text_stream.proofs.Cutting.{ready_start}
+use Rattle.std.proofs.Common.{take, refl, sym, arith, length-take-le}
+use Rattle.text_session.specs.Store.{table_in}
+use Rattle.text_session.proofs.Columns.{loan_none, loan_on}
+use Rattle.text_stream.specs.Running.{session_of, stream_state}
 use Rattle.text_io.proofs.Counting.{counted_as, counted_none}
-use Rattle.text_io.proofs.Telling.{took_got, took_end, took_failed, onwards_next}
+use Rattle.text_io.proofs.Telling.{took_got, took_end, took_failed}
 use Rattle.text_serve.specs.Serving.{Finished}
-use Rattle.text_serve.proofs.Reached.{reached_start, reached_on, unended, closed}
+use Rattle.text_serve.proofs.Reached.{reached_start, reached_on, unended, closed, on_unread, on_unwritten}
 use Rattle.text_serve.proofs.pieces.Goals as goal
 
-pub loop-turns-init : goal.loop-turns-init
-loop-turns-init g c =
+pub loop-turn-init : goal.loop-turn-init
+loop-turn-init g c =
     record {
-      ready = ready_start _ _ c.start-session.ensures c.requires.line_enough;
-      reached = reached_start _ _ (omega arith) c.start-session.ensures;
+      loan = loan_none c.args.store.now;
+      buffers = record { same_piece = refl; same_out = refl };
+      reached = reached_start _ c.start-stream.result.line (omega arith) c.start-stream.ensures;
     }
 
-pub answer-told-requires-clause-n_in_bounds : goal.answer-told-requires-clause-n_in_bounds
-answer-told-requires-clause-n_in_bounds g c = (took_got _ _ _ _ c.read.ensures c.in-Got.is).1.0
+pub slice_bounds-answer-end : goal.slice_bounds-answer-end
+slice_bounds-answer-end g c =
+    sym (length-take-le c.in-Some.n c.read.new.piece (took_got _ _ _ _ c.in_ok-n.ensures c.in-Some.is).1.0)
 
-pub loop-turns-preserved : goal.loop-turns-preserved
-loop-turns-preserved g c =
-    let read = took_got _ _ _ _ c.read.ensures c.in-Got.is in
-    let whole = length-take-le c.in-Got.n c.read.new.piece read.1.0 in
-    let advanced = onwards_next _ _ _ _ _ _ _ _ c.answer-told.ensures c.in-Next.is in
-    let reached = c.loop-turns.invariant.reached in
-    let next = state_of c.in-Next.next c.answer-told.new.line
-    (table_of c.answer-told.new.ids c.answer-told.new.numbers c.answer-told.new.tats c.answer-told.new.newest) in
+pub returns-in_err-n-clause-answers : goal.returns-in_err-n-clause-answers
+returns-in_err-n-clause-answers g c =
+    on_unread c.from_residual.result _ _ _ c.from_residual.ensures.1
+    (unended c.loop-turn.invariant.reached (took_failed _ _ _ c.in_err-n.ensures) (omega arith))
+
+pub returns-in_default-clause-answers : goal.returns-in_default-clause-answers
+returns-in_default-clause-answers g c =
+    let none = took_end _ _ _ _ c.in_ok-n.ensures c.in_default.is in
+    closed (session_of c.loop-turn.stream) c.loop-turn.stream.line c.loop-turn.invariant.reached none _ _ _ c.close.ensures
+
+pub returns-in_err-answer-clause-answers : goal.returns-in_err-answer-clause-answers
+returns-in_err-answer-clause-answers g c = on_unwritten c.from_residual-in_err-answer.result _ _ _ c.from_residual-in_err-answer.ensures.1
+
+pub returns-clause-answers : goal.returns-clause-answers
+unfolding Finished
+returns-clause-answers g c =
+    let reached = c.loop-turn.invariant.reached in
+    unended reached (counted_none _) (omega (arith, reached.turned, c.loop-turn-test.false))
+
+pub loop-turn-preserved : goal.loop-turn-preserved
+loop-turn-preserved g c =
+    let read = took_got _ _ _ _ c.in_ok-n.ensures c.in-Some.is in
+    let whole = length-take-le c.in-Some.n c.read.new.piece read.1.0 in
+    let advanced = c.in_ok-answer.ensures.onwards in
+    let next = stream_state c.answer.new.stream (table_in c.answer.new.store) in
+    let on =
+    reached_on c.loop-turn.invariant.reached (take c.in-Some.n c.read.new.piece) {τ = next} (omega (arith, whole, read.0))
+    advanced.state_is (counted_as (sym whole) read.1.1) advanced.written.sent_is in
     record {
-      ready = advanced.ready;
-      reached = reached_on reached (take c.in-Got.n c.read.new.piece) {τ = next} (omega (arith, whole, read.0))
-          advanced.state_is (counted_as (sym whole) read.1.1) advanced.written.sent_is;
+      loan = loan_on c.loop-turn.invariant.loan c.answer.ensures.loan;
+      buffers = record { same_piece = c.loop-turn.invariant.buffers.same_piece; same_out = c.loop-turn.invariant.buffers.same_out };
+      reached = record {
+        input = on.input;
+        turned = omega (arith, on.turned);
+        state_is = on.state_is;
+        taken_is = on.taken_is;
+        sent_is = on.sent_is;
+      };
     }
-
-pub returns-then-turns-eq0 : goal.returns-then-turns-eq0
-unfolding Finished
-returns-then-turns-eq0 g c =
-    let reached = c.loop-turns.invariant.reached in
-    unended reached (counted_none _) (omega (arith, reached.turned, c.if-turns-eq0.true))
-
-pub returns-in_default : goal.returns-in_default
-unfolding Finished
-returns-in_default g c = tt
-
-pub returns-in-End : goal.returns-in-End
-returns-in-End g c =
-    closed c.loop-turns.session c.loop-turns.line c.loop-turns.invariant.reached (took_end _ _ _ _ c.read.ensures c.in-End.is) _ _ _ c.close.ensures
-
-pub returns-in-Failed : goal.returns-in-Failed
-unfolding Finished
-returns-in-Failed g c = unended c.loop-turns.invariant.reached (took_failed _ _ _ _ c.read.ensures c.in-Failed.is) (omega arith)

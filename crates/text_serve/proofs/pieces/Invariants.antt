@@ -1,17 +1,16 @@
--- What was read so far is an input whose state is the session's, and what is said of it was written.
-use Rattle.table_gcra.specs.Table.{table_of}
-use Rattle.text_stream.specs.Running.{Ready, state_of}
-use Rattle.text_serve.specs.Serving.{account_of}
+-- What was read so far is an input whose state is the stream's, and what is said of it was written.
+use Rattle.std.proofs.Common.{◌-◌}
+use Rattle.text_session.specs.Store.{table_in, SameLoan}
+use Rattle.text_stream.specs.Running.{stream_state}
+use Rattle.text_serve.specs.Serving.{account_of, SameBuffers}
 use Rattle.text_serve.specs.Laws.{Reached}
 use Rattle.text_serve.proofs.pieces.Given as goal
 
-abbrev pub invariant-loop-turns : goal.invariant-loop-turns
-invariant-loop-turns g l =
+abbrev pub invariant-loop-turn : goal.invariant-loop-turn
+invariant-loop-turn g l =
     record {
-      ready : Ready l.session l.line;
-      reached : Reached (account_of (table_of l.fn.ids l.fn.numbers l.fn.tats l.fn.newest) l.fn.taken l.fn.sent) l.turns
-          (state_of l.session l.line (table_of l.ids l.numbers l.tats l.newest)) l.taken l.sent;
+      loan : SameLoan l.fn.store l.store;
+      buffers : SameBuffers l.fn.buffers l.buffers;
+      reached : Reached (account_of (table_in l.fn.store) l.fn.input.count l.fn.output.count) (18446744073709551615 - l._turn)
+          (stream_state l.stream (table_in l.store)) l.input.count l.output.count;
     }
-
-abbrev pub decreases-loop-turns : goal.decreases-loop-turns
-decreases-loop-turns g l = l.turns

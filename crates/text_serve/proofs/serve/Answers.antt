@@ -1,16 +1,15 @@
 -- The header and then the answers are the transcript.
 use Rattle.std.proofs.Common.{arith}
 use Rattle.text_protocol.proofs.Lengths.{header_length}
-use Rattle.text_serve.specs.Serving.{Finished}
-use Rattle.text_serve.proofs.Reached.{served}
+use Rattle.text_session.proofs.Columns.{lent_in}
+use Rattle.text_serve.proofs.Reached.{served, on_unwritten}
 use Rattle.text_serve.proofs.serve.Goals as goal
 
-pub begin-begun-requires : goal.begin-begun-requires
-begin-begun-requires g c = omega (arith, header_length, c.requires.ample.one_line)
+pub begin-requires : goal.begin-requires
+begin-requires g c = omega (arith, header_length, c.args.buffers.now.ample.one_line)
 
-pub returns-then-begun : goal.returns-then-begun
-returns-then-begun g c = served _ c.requires.lent (c.begin-begun.ensures c.if-begun.true).sent_is _ _ c.pieces.ensures
+pub returns-in_err-begin-clause-serves : goal.returns-in_err-begin-clause-serves
+returns-in_err-begin-clause-serves g c = on_unwritten c.from_residual.result _ _ _ c.from_residual.ensures.1
 
-pub returns : goal.returns
-unfolding Finished
-returns g c = tt
+pub returns-clause-serves : goal.returns-clause-serves
+returns-clause-serves g c = served _ (lent_in c.args.store.now) c.in_ok-begin.ensures.sent_is _ _ c.pieces.ensures.answers

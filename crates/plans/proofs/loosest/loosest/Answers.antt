@@ -15,14 +15,11 @@ pub loop-i-init : goal.loop-i-init
 loop-i-init c =
     let ps = plans_in c.args.plans.now in (
       looser_first ps c.nth-loosest.ensures,
-      (subst (λ (p : Plan). WithinLimits p) (sym c.nth-loosest.ensures) (c.requires.each 0 (omega (arith, c.requires.least))), omega (arith, c.requires.least, c.count-lent.ensures)),
+      subst (λ (p : Plan). WithinLimits p) (sym c.nth-loosest.ensures) (c.requires.each 0 (omega (arith, c.requires.least))),
     )
 
 pub nth-requires : goal.nth-requires
 nth-requires c = omega (arith, c.loop-i-test.true, c.count-lent.ensures)
-
-pub loop-i-smaller : goal.loop-i-smaller
-loop-i-smaller c = omega (arith, c.loop-i-test.true)
 
 pub loop-i-preserved : goal.loop-i-preserved
 loop-i-preserved c =
@@ -30,12 +27,12 @@ loop-i-preserved c =
     let here = c.nth.ensures in
     let fine = subst (λ (p : Plan). WithinLimits p) (sym here) (c.requires.each c.loop-i.i (omega (arith, c.count-lent.ensures, c.loop-i-test.true))) in (
       looser_next ps c.loop-i.i c.looser-loosest.result c.loop-i.invariant.0 here c.looser-loosest.ensures.looser.0 c.looser-loosest.ensures.looser.1,
-      (c.looser-loosest.ensures.within_limits c.loop-i.invariant.1.0 fine, omega (arith, c.loop-i-test.true)),
+      c.looser-loosest.ensures.within_limits c.loop-i.invariant.1 fine,
     )
 
 pub returns : goal.returns
 returns c =
     record {
-      within_limits = c.loop-i.invariant.1.0;
+      within_limits = c.loop-i.invariant.1;
       looser = λ k h. c.loop-i.invariant.0 k (omega (arith, h, c.count-lent.ensures, c.loop-i-test.false));
     }

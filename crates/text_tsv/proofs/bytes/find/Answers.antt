@@ -1,15 +1,25 @@
--- `bytes::find`: at the text's end, at the byte, and past another.
-use Rattle.std.proofs.Common.{sym, ◌∙◌}
-use Rattle.text_tsv.proofs.Scanning.{found_end, found_here, found_next}
+-- `bytes::find`: where there is such a byte, and where there is none.
+use Rattle.std.proofs.Common.{ℕ, ◌+◌, ◌-◌, ◌∙◌, eqb, length, drop, ap, arith, rules, tests, length-drop}
+use Rattle.std.proofs.Math.Seq.{take_all}
+use Rattle.std.proofs.lemmas.Iterator.{YieldsList-from_slice}
+use Rattle.std.proofs.lemmas.Iterator.Search.{position_from_yields_List}
+use Rattle.text_tsv.proofs.Scanning.{Position, place_found, place_none}
+use Rattle.text_tsv.proofs.bytes.find.Goals.{After-position}
 use Rattle.text_tsv.proofs.bytes.find.Goals as goal
 
-pub loop-i-preserved : goal.loop-i-preserved
-loop-i-preserved c =
-    found_next c.args.byte c.args.text.now c.loop-i.i c.if-text-i.false c.if-text-i-2.false ∙ c.loop-i.invariant
+found : (c : After-position) →
+    let S = c.args in
+    Position S.byte (drop S.at S.text.now) c.position.result
+found c =
+    let S = c.args in
+    record {
+      is =
+          position_from_yields_List (λ b. eqb b c.args.byte) _ _ c.position.result c.position.ensures.ran (YieldsList-from_slice _ (c.iter.ensures.rest ∙ take_all (length S.text.now - S.at) (drop S.at S.text.now) (omega (arith, length-drop S.at S.text.now)))) (λ x b q k. search (rules, tests));
+    }
 
-pub returns-then-text-i : goal.returns-then-text-i
-returns-then-text-i c = sym (found_end c.args.byte c.args.text.now c.loop-i.i c.if-text-i.true) ∙ c.loop-i.invariant
+pub returns-in-Some : goal.returns-in-Some
+returns-in-Some c = ap (λ (k : ℕ). c.args.at + k) (place_found (found (goal.at.returns-in-Some c).After-position) c.in-Some.is)
 
-pub returns-then-text-i-2 : goal.returns-then-text-i-2
-returns-then-text-i-2 c =
-    sym (found_here c.args.byte c.args.text.now c.loop-i.i c.if-text-i.false c.if-text-i-2.true) ∙ c.loop-i.invariant
+pub returns-in-None : goal.returns-in-None
+returns-in-None c =
+    omega (arith, place_none (found (goal.at.returns-in-None c).After-position) c.in-None.is, length-drop c.args.at c.args.text.now)

@@ -1,11 +1,7 @@
--- The digits before i came to the value.
-use Rattle.std.proofs.Common.{◌≡◌, ◌-◌, length, drop}
-use Rattle.text_tsv.specs.declared.decimal.Number.TheVariants.{Value}
+-- The digits so far came to the value.
+use Rattle.std.proofs.Common.{◌≡◌, drop, Some}
 use Rattle.text_tsv.specs.Decimal.{onwards}
 use Rattle.text_tsv.proofs.decimal.value.Given as goal
 
-abbrev pub invariant-loop-i : goal.invariant-loop-i
-invariant-loop-i l = onwards l.most (Value l.value) (drop l.i l.text) ≡ onwards l.most (Value 0) l.text
-
-abbrev pub decreases-loop-i : goal.decreases-loop-i
-decreases-loop-i l = length l.text - l.i
+abbrev pub invariant-loop-byte : goal.invariant-loop-byte
+invariant-loop-byte l = onwards l.most (Some l.value) (drop l.byte-index l.text) ≡ onwards l.most (Some 0) l.text

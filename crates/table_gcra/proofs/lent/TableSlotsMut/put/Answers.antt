@@ -1,0 +1,21 @@
+-- `table_gcra::lent::TableSlotsMut::put` meets its contract: the place lies within the columns.
+-- Assumes nothing.
+use Rattle.std.proofs.Common.{arith}
+use Rattle.table_gcra.specs.Table.{table_in}
+use Rattle.table_gcra.proofs.Columns.{least}
+use Rattle.table_gcra.proofs.lent.TableSlotsMut.put.Goals as goal
+
+pub offset_bounds-self-place : goal.offset_bounds-self-place
+offset_bounds-self-place c = omega (arith, c.requires.place_in_bounds, (least (table_in c.args.self.now)).ids)
+
+pub bounds-self-place : goal.bounds-self-place
+bounds-self-place c = omega (arith, c.requires.place_in_bounds, (least (table_in c.args.self.now)).ids)
+
+pub bounds-self-place-2 : goal.bounds-self-place-2
+bounds-self-place-2 c = omega (arith, c.requires.place_in_bounds, (least (table_in c.args.self.now)).numbers)
+
+pub offset_bounds-self-place-2 : goal.offset_bounds-self-place-2
+offset_bounds-self-place-2 c = omega (arith, c.requires.place_in_bounds, (least (table_in c.args.self.now)).tats)
+
+pub bounds-self-place-3 : goal.bounds-self-place-3
+bounds-self-place-3 c = omega (arith, c.requires.place_in_bounds, (least (table_in c.args.self.now)).tats)
