@@ -4,13 +4,15 @@
 use mathlib.Core.Path.{◌≡◌, refl, sym}
 use mathlib.Core.Bool.{Bool, true, false, cond}
 use mathlib.Core.List.{List, [], ◌∷◌, ◌++◌}
-use Prim.Native.Nat.{ℕ, suc, ◌+◌, ◌*◌, ◌≤◌}
+use Prim.Native.Nat.{ℕ, suc, ◌+◌, ◌*◌, ◌<◌, ◌≤◌}
 use native.Mathlib.Omega.{arith}
 use lib.Dec.{eqb}
-use lib.ListN.{length, length-append}
+use lib.ListN.{length, drop, length-append}
+use Rattle.std.proofs.Common.{drop_of_length-le, get_or}
 use Rattle.std.specs.List.{count_by}
 use Rattle.std.proofs.lemmas.List.Recursion.{is_count_by}
 use Rattle.text_tsv.specs.Text.{lf}
+use Rattle.text_tsv.proofs.Scanning.{rest_of}
 use Rattle.text_protocol.specs.Reply.{most_reply}
 use Rattle.text_protocol.proofs.Lengths.{line_most}
 use Rattle.std.specs.Prelude.{Option, Some, None}
@@ -51,6 +53,16 @@ endings_most (b ∷ s) = by (eqb b lf) (endings_most s)
     by : (t : Bool) → endings s ≤ length s → cond t 1 0 + endings s ≤ suc (length s)
     by true h = omega arith
     by false h = omega arith
+
+-- the lines that end, from a place on
+module _ (s : List ℕ) (i : ℕ) where
+  pub endings_end : length s ≤ i → endings (drop i s) ≡ 0
+  unfolding endings
+  endings_end h = rw (drop_of_length-le s h)
+
+  pub endings_next : i < length s → endings (drop i s) ≡ cond (eqb (get_or s i 0) lf) 1 0 + endings (drop (i + 1) s)
+  unfolding endings
+  endings_next h = rw (rest_of s i h)
 
 -- the lines that end are the bytes that are an LF
 pub endings_count : (s : List ℕ) → count_by (λ (b : ℕ). eqb b lf) s ≡ endings s

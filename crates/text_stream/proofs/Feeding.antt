@@ -103,25 +103,6 @@ module _ {σ₀ : State} {piece out₀ : List ℕ} {at : ℕ} {s : Session} {lin
         lent = g.lent;
       }
 
--- a piece that was fed
-going_done :
-    {σ₀ : State} {piece out₀ : List ℕ} {at : ℕ} {s : Session} {line : List ℕ} {t : Table} {out : List ℕ} {w : ℕ} →
-    Moved (said σ₀ piece) (after σ₀ piece) at (record { session = s; at = w }) line t out₀ out →
-    Going σ₀ piece out₀ at s line t out w (length piece)
-going_done {σ₀} {piece} {out₀} {at} {s} {line} {t} {out} {w} m =
-    let σ = state_of s line t in
-    let none : drop (length piece) piece ≡ [] = drop_of_length-le piece (omega arith) in
-    let quiet = ap (λ (l : List ℕ). said σ l) none ∙ said_none σ in
-    record {
-      leads = ap (λ (l : List ℕ). after σ l) none ∙ after_none σ ∙ m.state_is;
-      writes = ap (λ (l : List ℕ). sets out w l) quiet ∙ m.out_is;
-      place = omega (arith, m.at_is, ap (λ (l : List ℕ). length l) quiet);
-      long_as = ap (λ (l : List ℕ). length l) m.out_is ∙ length-sets out₀ at (said σ₀ piece);
-      ready = m.ready;
-      lent = m.lent;
-      inside = omega arith;
-    }
-
 -- a piece of which parts were fed, and these bytes are left
 pub record Parted (σ₀ : State) (piece out₀ : List ℕ) (at : ℕ) (s : Session) (line : List ℕ) (t : Table) (out : List ℕ) (w : ℕ) (left : List ℕ) : Type 0 where
   pub i : ℕ
@@ -209,11 +190,8 @@ module _ {σ₀ : State} {piece out₀ : List ℕ} {at : ℕ} {s : Session} {lin
 
       pub parted_rest :
           (s' : Session) (line' : List ℕ) → Ready s' line' → s'.stage ≡ s.stage →
-          take s'.held line' ≡ take most_line (take s.held line ++ part) → Parted σ₀ piece out₀ at s' line' t out w rest
+          take s'.held line' ≡ take most_line (take s.held line ++ part) →
+          Moved (said σ₀ piece) (after σ₀ piece) at (record { session = s'; at = w }) line' t out₀ out
       parted_rest s' line' ready same kept_is =
-          record {
-            i = length piece;
-            left_is = none_left ∙ sym (drop_of_length-le piece (omega arith));
-            going = going_done (going_end p.going ended_at s' line' (omega arith) ready same
-                (kept_is ∙ ap (λ (m : List ℕ). take most_line (take s.held line ++ m)) part_is));
-          }
+          going_end p.going ended_at s' line' (omega arith) ready same
+          (kept_is ∙ ap (λ (m : List ℕ). take most_line (take s.held line ++ m)) part_is)

@@ -113,7 +113,11 @@ impl Stream {
         for part in piece.split_inclusive(|byte| *byte == LF) {
             match part.strip_suffix(&[LF]) {
                 Some(line) => w = self.end_line(line, store, out, w),
-                None => self.hold(part),
+                // the rest of the piece: held last, and not in the loop, it leaves what is held in registers
+                None => {
+                    self.hold(part);
+                    return w;
+                }
             }
         }
         w

@@ -24,11 +24,17 @@ pub enum TooShort {
     Output,
 }
 
-// How many lines of a text end.
+// How many lines of a text end. No branch is made for a byte, as `filter` and `count` make, so that the compiler counts several at once;
+// and it stays apart, since within its caller the loop came to end where a processor takes half as long again for it.
+#[inline(never)]
 fn endings(text: &[u8]) -> usize
     ensures { result ≡ endings text.now }
 {
-    text.iter().filter(|byte| **byte == LF).count()
+    let mut count = 0;
+    for byte in text {
+        count += (*byte == LF) as usize;
+    }
+    count
 }
 
 // The whole run over an output that is large enough.

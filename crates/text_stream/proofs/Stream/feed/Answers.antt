@@ -37,8 +37,8 @@ end_line-w-requires c =
     parted_room c.loop-part.invariant.parted c.in-Some.part.now c.next.new.self.rest.now s.1.0 s.0 s.1.1 first
     c.in-Some-strip_suffix.line.now (strip_suffix_is {E = nat_eq} Decides-eqb c.in-Some.part.now (lf ∷ []) (Some c.in-Some-strip_suffix.line) c.in-Some-strip_suffix.ensures.cases) c.requires
 
-pub loop-part-preserved-in-Some-strip_suffix : goal.loop-part-preserved-in-Some-strip_suffix
-loop-part-preserved-in-Some-strip_suffix c =
+pub loop-part-preserved : goal.loop-part-preserved
+loop-part-preserved c =
     let s = c.in-Some.ensures.steps in
     let first = (s.1.2 (λ b. eqb b lf) (always_returns_same _ _ _ (λ a r q k. search (rules, tests)))).1 in
     record {
@@ -48,17 +48,16 @@ loop-part-preserved-in-Some-strip_suffix c =
           c.in-Some-strip_suffix.line.now (strip_suffix_is {E = nat_eq} Decides-eqb c.in-Some.part.now (lf ∷ []) (Some c.in-Some-strip_suffix.line) c.in-Some-strip_suffix.ensures.cases) c.end_line-w.ensures.moved;
     }
 
-pub loop-part-preserved : goal.loop-part-preserved
-loop-part-preserved c =
+pub returns-in-None-strip_suffix-clause-loan : goal.returns-in-None-strip_suffix-clause-loan
+returns-in-None-strip_suffix-clause-loan c = c.loop-part.invariant.loan
+
+pub returns-in-None-strip_suffix-clause-moved : goal.returns-in-None-strip_suffix-clause-moved
+returns-in-None-strip_suffix-clause-moved c =
     let s = c.in-Some.ensures.steps in
     let first = (s.1.2 (λ b. eqb b lf) (always_returns_same _ _ _ (λ a r q k. search (rules, tests)))).1 in
-    record {
-      loan = c.loop-part.invariant.loan;
-      parted =
-          parted_rest c.loop-part.invariant.parted c.in-Some.part.now c.next.new.self.rest.now s.1.0 s.0 s.1.1 first
-          (strip_suffix_is {E = nat_eq} Decides-eqb c.in-Some.part.now (lf ∷ []) None c.in-None-strip_suffix.ensures.cases)
-          _ _ (ready_in c.hold.new.self) c.hold.ensures.same_stage c.hold.ensures.line_after;
-    }
+    parted_rest c.loop-part.invariant.parted c.in-Some.part.now c.next.new.self.rest.now s.1.0 s.0 s.1.1 first
+    (strip_suffix_is {E = nat_eq} Decides-eqb c.in-Some.part.now (lf ∷ []) None c.in-None-strip_suffix.ensures.cases)
+    _ _ (ready_in c.hold.new.self) c.hold.ensures.same_stage c.hold.ensures.line_after
 
 pub returns-clause-loan : goal.returns-clause-loan
 returns-clause-loan c = c.loop-part.invariant.loan
