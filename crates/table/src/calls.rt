@@ -1,5 +1,6 @@
 // The calls on a table, by any engine: ask, look and clear. Only an ask that is admitted, and a clear, write.
 ghost use Rattle.std.specs.Prelude.{◌≡◌, ◌≤◌};
+ghost use Rattle.rate.specs.Account.{report};
 ghost use Rattle.rate.specs.Answer.{numbers_of, cleared_numbers, verdict_of};
 ghost use Rattle.plans.specs.Plans.{planned, Lending};
 ghost use Rattle.table.specs.Rule.{rule_of};
@@ -14,6 +15,7 @@ use crate::request::{Query, Request};
 use plans::planned;
 use plans::planned::Planned;
 use rate::answer::{Answer, Outcome, Reason};
+use rate::engine;
 use rate::engine::Engine;
 
 // A slot, and a record: the one that is judged, or the one to be written.
@@ -51,6 +53,17 @@ fn fresh<E: Engine>(query: &Query) -> Planned<E::Record>
         number: query.setting.number,
         held: E::fresh(query.setting.asked(), query.moment),
     }
+}
+
+// What a look says of a subscriber without a slot: what the engine says of a fresh record. It is of the plan asked for, and so takes
+// none of the tests of a stored one.
+fn report_fresh<E: Engine>(query: &Query) -> Outcome
+    requires { Lending (asked_of query.now).setting (asked_of query.now).moment }
+    ensures { verdict_of result ≡ report (planned E.engine) (asked_of query.now).setting (asked_of query.now).moment
+        ((planned E.engine).fresh (asked_of query.now).setting (asked_of query.now).moment) }
+{
+    let plan = query.setting.asked();
+    engine::report::<E>(plan, query.moment, E::fresh(plan, query.moment))
 }
 
 // What the checks look at.
@@ -122,10 +135,13 @@ pub fn peek<S: Slots>(slots: &S, query: &Query) -> Answer
             outcome: Outcome::Refused(reason),
         };
     }
-    let held = match slots.find(subscriber) {
-        Some(place) => slots.row(place),
-        None => fresh::<S::By>(query),
+    let Some(place) = slots.find(subscriber) else {
+        return Answer {
+            subscriber,
+            outcome: report_fresh::<S::By>(query),
+        };
     };
+    let held = slots.row(place);
     Answer {
         subscriber,
         outcome: planned::report::<S::By>(&query.setting, query.moment, held),
