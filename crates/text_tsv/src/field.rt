@@ -33,15 +33,39 @@ impl<'a> Reader<'a> {
         }
     }
 
+    // The place of the next field; beyond the text's end after the last.
+    pub fn place(&self) -> usize
+        ensures { result ≡ self.now.at }
+    {
+        self.at
+    }
+
+    // The next field, up to its tab or the text's end. The reader stands at the field after it then, over the same text.
+    #[tactic(auto, using(crate::proofs::Splitting::by_place))]
+    fn take(&mut self) -> Option<&'a [u8]>
+        ensures gives { YieldsFirstRef (λ s. fields_at s.text.now s.at) self.old result self.new }
+        ensures same_text { self.new.text ≡ self.old.text }
+    {
+        let text = self.text;
+        let at = self.at;
+        if text.len() < at {
+            return None;
+        }
+        let end = bytes::find(text, at, TAB);
+        *self = self.moved(end + 1);
+        Some(&text[at..end])
+    }
+
     // The number in the next field. The reader stands at the field after it then, whether it is a number or not. The number in the field
-    // at a place of a line is `Reader::over(line).moved(at).number(most)`.
+    // at a place of a line is `Reader::over(line).moved(at).number(most)`, and the place of the field after it the reader's `place` then.
     #[tactic(auto, using(crate::proofs::Fields::by_first))]
     pub fn number(&mut self, most: u64) -> Option<u64>
         ensures number { taken_as result (fields_at self.new.text.now self.new.at)
             ≡ take_number most (fields_at self.old.text.now self.old.at) }
         ensures left { fields_at self.new.text.now self.new.at ≡ drop 1 (fields_at self.old.text.now self.old.at) }
+        ensures same_text { self.new.text ≡ self.old.text }
     {
-        decimal::read(self.next()?, most)
+        decimal::read(self.take()?, most)
     }
 }
 
@@ -52,15 +76,7 @@ impl<'a> Iterator for Reader<'a> {
 
     ghost remaining = { item_count (λ s. fields_at s.text.now s.at) };
 
-    #[tactic(auto, using(crate::proofs::Splitting::by_place))]
     fn next(&mut self) -> Option<&'a [u8]> {
-        let text = self.text;
-        let at = self.at;
-        if text.len() < at {
-            return None;
-        }
-        let end = bytes::find(text, at, TAB);
-        self.at = end + 1;
-        Some(&text[at..end])
+        self.take()
     }
 }
