@@ -80,7 +80,8 @@ fn put_digits(out: &mut [u8], at: usize, n: u64) -> usize
     requires { at + length (digits n) ≤ length out.old }
     ensures { (result ≡ at + length (digits n)) × (out.new ≡ sets out.old at (digits n)) }
 {
-    if n < 10 {
+    // most numbers of an answer are short, and need no logarithm
+    if n < 100 {
         return put_short(out, at, n);
     }
     let end = at + n.ilog10() as usize + 1;
