@@ -72,6 +72,23 @@ build_cpp() {
         fail "hosts/c/$1.c does not build as C++"
 }
 
+# gcc's sanitizers. sanitizers_see_clears: they must report each clear whose ids, plan numbers or last column is lent one element longer than
+# its memory, which they see by the archive's memset
+sanitizers="-fsanitize=address,undefined -fno-sanitize-recover=all"
+sanitizers_see_clears() {
+    program=$build/overlong_sanitized
+    gcc -std=c11 -g $sanitizers -o "$program" "$root/hosts/c/overlong.c" "$build/librailcadence_c.a" ||
+        fail "hosts/c/overlong.c does not build with the sanitizers"
+    for call in gcra_clear token_bucket_clear; do
+        "$program" $call exact || fail "the sanitizers find an error in $call with enough memory: see above"
+        for slice in ids plan_numbers record; do
+            if "$program" $call $slice 2>"$build/overlong.out"; then fail "the sanitizers do not notice that $call goes beyond $slice"; fi
+            grep -q heap-buffer-overflow "$build/overlong.out" ||
+                fail "the sanitizers report something else of $call and $slice: see build/overlong.out"
+        done
+    done
+}
+
 # the archive as a shared library, for Python
 build_shared() {
     gcc -shared -o "$build/librailcadence.so" -Wl,--whole-archive "$build/librailcadence_c.a" -Wl,--no-whole-archive ||

@@ -14,7 +14,7 @@ use rule_gcra::Gcra;
 use rule_gcra::drained::Moments;
 use table::blocks::BLOCK;
 use table::calls::Ruling;
-use table::columns::common;
+use table::columns::{self, common};
 use table::lent::{Slots, SlotsMut};
 use table::request::{Query, Request};
 use table::{blocks, calls, search};
@@ -146,9 +146,9 @@ impl<'a> SlotsMut for Table<'a> {
 
     #[tactic(auto, unfolding(crate::specs::Table::records))]
     fn zero(&mut self) {
-        self.ids.fill(0);
-        self.numbers.fill(0);
-        self.tats.fill(0);
+        columns::fill(self.ids, 0);
+        columns::fill(self.numbers, 0);
+        columns::fill(self.tats, 0);
         *self.newest = 0;
     }
 

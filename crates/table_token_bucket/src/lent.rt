@@ -13,7 +13,7 @@ use plans::loosest;
 use plans::planned::Planned;
 use rule_token_bucket::{Bucket, TokenBucket, planned};
 use table::calls::Ruling;
-use table::columns::common;
+use table::columns::{self, common};
 use table::lent::{Slots, SlotsMut};
 use table::request::{Query, Request};
 use table::{blocks, calls, search};
@@ -183,10 +183,10 @@ impl<'a> SlotsMut for Table<'a> {
 
     #[tactic(auto, unfolding(crate::specs::Table::records))]
     fn zero(&mut self) {
-        self.ids.fill(0);
-        self.numbers.fill(0);
-        self.levels.fill(0);
-        self.lasts.fill(0);
+        columns::fill(self.ids, 0);
+        columns::fill(self.numbers, 0);
+        columns::fill(self.levels, 0);
+        columns::fill(self.lasts, 0);
         *self.newest = 0;
     }
 
